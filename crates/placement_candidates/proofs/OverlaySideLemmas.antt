@@ -14,8 +14,9 @@ use Rattle.block_splitter.specs.declared.piece.Piece.{Piece}
 use Rattle.block_splitter.specs.Pieces.{range_of, is_entry}
 use Rattle.block_splitter.specs.Forms.{holds_block}
 use Rattle.cell_values.specs.Objects.{object_of, datum_of}
-use Rattle.placement_programme.specs.declared.variables.FullVar.{FullVar}
-use Rattle.placement_programme.specs.Plain.{PlainFullVar, PlainFullSide, PlainFull, plain_full_var}
+use Rattle.placement_candidates.specs.declared.variables.FullVar.{FullVar}
+use Rattle.placement_programme.specs.Plain.{PlainFullVar, PlainFullSide, PlainFull}
+use Rattle.placement_candidates.specs.FullVars.{plain_full_var}
 use Rattle.placement_programme.specs.Bounds.{AreWeights}
 use Rattle.placement_programme.specs.Rows.{Candidate, static_data, static_code, overlay_data, overlay_code, kept_data, name_of, pairs_of, first_twin, second_twin, on_capacities, on_weights}
 use Rattle.energy_model.specs.Energy.{Scene, stub_energy, nothing_taken, object_rounds, into_price}

@@ -3,8 +3,9 @@ use Rattle.std.proofs.Common.{◌≡◌, ◌∙◌, ℕ, ℤ, List, [], ◌∷�
 use Rattle.std.specs.List.{All, filter}
 use Rattle.std.proofs.lemmas.List.Elements.{filter-append}
 use Rattle.std.proofs.lemmas.List.{map-append, append_assoc, append-nil, take_more, get_or-map}
-use Rattle.placement_programme.specs.Plain.{PlainFullVar, plain_full_var}
-use Rattle.placement_programme.specs.declared.variables.FullVar.{FullVar}
+use Rattle.placement_programme.specs.Plain.{PlainFullVar}
+use Rattle.placement_candidates.specs.FullVars.{plain_weights, plain_full_var}
+use Rattle.placement_candidates.specs.declared.variables.FullVar.{FullVar}
 use Rattle.placement_programme.specs.declared.variables.VarName.{VarName}
 use Rattle.placement_programme.specs.Rows.{Candidate, static_data, static_code, overlay_data, overlay_code, kept_data, on_weights}
 use Rattle.placement_candidates.specs.declared.measured.Measured.{Measured}
@@ -30,13 +31,13 @@ var_is m rows item gain weights candidate same is saves weighs =
     λ i. record { name = is.name i; gain = saves i; weights = all i }
 
 -- it is pushed
-pub pushed : (A : Type 0) (m : Measured) (rows : OverlayRows) (item : RowItem) (var : FullVar) (Is : OverlayRows → A → Type 0) (candidate : A → Candidate) (a : A) (old new : List FullVar) → rows ≡ rows_in m → IsCandidate rows item (Is rows) candidate → Is (rows_in m) a → var.name ≡ item.name → var.gain ≡ gain_in m (candidate a) → var.weights.items ≡ weights_of rows item → new ≡ old ++ var ∷ [] → map plain_full_var new ≡ map plain_full_var old ++ on_var m (candidate a) ∷ []
+pub pushed : (A : Type 0) (m : Measured) (rows : OverlayRows) (item : RowItem) (var : FullVar) (Is : OverlayRows → A → Type 0) (candidate : A → Candidate) (a : A) (old new : List FullVar) → rows ≡ rows_in m → IsCandidate rows item (Is rows) candidate → Is (rows_in m) a → var.name ≡ item.name → var.gain ≡ gain_in m (candidate a) → plain_weights var.weights ≡ weights_of rows item → new ≡ old ++ var ∷ [] → map plain_full_var new ≡ map plain_full_var old ++ on_var m (candidate a) ∷ []
 pushed A m rows item var Is candidate a old new same can is named saves weighs grown =
     let item_is = can.is a (subst (λ (r : OverlayRows). Is r a) (sym same) is) in
-    let var_there = var_is m rows item var.gain var.weights.items (candidate a) same item_is saves weighs in
+    let var_there = var_is m rows item var.gain (plain_weights var.weights) (candidate a) same item_is saves weighs in
     ap (map plain_full_var) grown
     ∙ map-append plain_full_var old (var ∷ [])
-    ∙ ap (λ (name : VarName). map plain_full_var old ++ (record { name = name; gain = var.gain; weights = var.weights.items }) ∷ []) named
+    ∙ ap (λ (name : VarName). map plain_full_var old ++ (record { name = name; gain = var.gain; weights = plain_weights var.weights }) ∷ []) named
     ∙ ap (λ (v : PlainFullVar). map plain_full_var old ++ v ∷ []) var_there
 
 -- variables of some candidates more

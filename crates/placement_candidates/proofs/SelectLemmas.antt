@@ -8,8 +8,9 @@ use Rattle.std.proofs.lemmas.List.{get_or-map, take_more}
 use Rattle.std.proofs.lemmas.List.Elements.{All-append}
 use Rattle.std.proofs.lemmas.List.Sums.{sum_by-append, sum_by-cons, sum_by-take-le}
 use Rattle.list_checks.specs.Sorted.{count_below}
-use Rattle.placement_programme.specs.declared.variables.FullVar.{FullVar}
-use Rattle.placement_programme.specs.Plain.{PlainVar, PlainSide, PlainFullVar, PlainFullSide, plain_full_var}
+use Rattle.placement_candidates.specs.declared.variables.FullVar.{FullVar}
+use Rattle.placement_programme.specs.Plain.{PlainVar, PlainSide, PlainFullVar, PlainFullSide}
+use Rattle.placement_candidates.specs.FullVars.{plain_full_var}
 use Rattle.placement_programme.specs.Bounds.{AreWeights, IsWithinBounds, IsWithinFullBounds}
 use Rattle.placement_candidates.specs.Selected.{worth, no_var, var_in, worth_at, better, is_kept, plain_kept, kept_at, kept_below, selected_side, saves_by_overlay}
 

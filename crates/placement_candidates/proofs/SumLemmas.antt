@@ -8,8 +8,9 @@ use Rattle.std.proofs.lemmas.List.Elements.{All-head}
 use Rattle.std.proofs.lemmas.List.Sums.{sum_by-cons}
 use Rattle.std.proofs.lemmas.Int.{ints, unsigned_abs-mul, fits_signed_from_abs}
 use Rattle.std.proofs.lemmas.Nat.{mul-le}
-use Rattle.placement_programme.specs.declared.variables.FullVar.{FullVar}
-use Rattle.placement_programme.specs.Plain.{PlainFullVar, PlainFullSide, plain_full_var}
+use Rattle.placement_candidates.specs.declared.variables.FullVar.{FullVar}
+use Rattle.placement_programme.specs.Plain.{PlainFullVar, PlainFullSide}
+use Rattle.placement_candidates.specs.FullVars.{plain_full_var}
 use Rattle.placement_candidates.specs.Stated.{IsSmallSide}
 use Rattle.placement_candidates.specs.Selected.{no_var, var_in}
 use Rattle.placement_candidates.specs.Overlaid.{IsSmallOn}

@@ -2,6 +2,8 @@
 pub use Rattle.placement_programme.specs.Rows
 pub use Rattle.placement_programme.specs.Views
 pub use Rattle.energy_model.specs.Scenes
+pub mod FullVars
+pub mod FullViews
 pub mod Stated
 pub mod Counted
 pub mod Selected

@@ -1,5 +1,5 @@
 -- The mix as it is made: the sides of the parts one by one, and the variables of a side by their places.
-use Rattle.std.specs.Prelude.{◌≡◌, ℕ, zero, suc, ◌<◌, ◌≤◌, Bool, true, false, List, [], ◌∷◌, ◌++◌, length}
+use Rattle.std.specs.Prelude.{ℕ, zero, suc, ◌<◌, ◌≤◌, Bool, true, false, List, [], ◌∷◌, ◌++◌, length}
 use Rattle.std.specs.List.{All}
 use Rattle.placement_programme.specs.Plain.{PlainFullVar, PlainFullSide}
 use Rattle.placement_candidates.specs.Selected.{var_in}

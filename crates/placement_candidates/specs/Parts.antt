@@ -2,7 +2,7 @@
 use Rattle.std.specs.Prelude.{◌≡◌, ℕ, ◌*◌, ◌^◌, ◌<◌, ◌≤◌, ℤ, pos, ◌+ℤ◌, ◌*ℤ◌, List, [], ◌∷◌, map, length, Option, Some, None}
 use Rattle.std.specs.List.{All, flat_map, sum_by}
 use Rattle.placement_programme.specs.Plain.{PlainFullSide, PlainFull}
-use Rattle.placement_programme.specs.Views.{plain_full}
+use Rattle.placement_candidates.specs.FullViews.{plain_full}
 use Rattle.placement_candidates.specs.Selected.{var_in}
 use Rattle.placement_candidates.specs.Stated.{IsSmallSide}
 use Rattle.placement_candidates.specs.Overlaid.{IsSmallOn}

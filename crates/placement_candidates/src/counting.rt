@@ -1,18 +1,19 @@
 ghost use Rattle.std.specs.Prelude.{◌≡◌, ℕ, ◌-◌, ◌*◌, ◌^◌, ◌<◌, ◌≤◌, List, map, None, IfOk};
 ghost use Rattle.elf_reader.specs.declared.view.ElfView.{ElfView};
-ghost use Rattle.placement_programme.specs.{Plain.{plain_full_var}, Bounds.{IsWithinFullBounds}, Views.{plain_full_side, plain_full}};
+ghost use Rattle.placement_programme.specs.Bounds.{IsWithinFullBounds};
 ghost use Rattle.profile_runner.specs.Transition.{Transition};
 ghost use Rattle.energy_model.specs.{Scenes.{scene_of, layout_of, AreOfSameFile}, Base.{CountsEnergy, IsCounted}};
-ghost use Rattle.placement_candidates.specs.{Stated.{AreSomePieces, IsStaticFull}, Counted.{start_size, stub_price, counted_rows, counted_static, counted_side, CanCount}};
+ghost use Rattle.placement_candidates.specs.{FullVars.{plain_full_var}, FullViews.{plain_full_side, plain_full}, Stated.{AreSomePieces, IsStaticFull}, Counted.{start_size, stub_price, counted_rows, counted_static, counted_side, CanCount}};
 
+use crate::full_sides::{Full, FullSide};
 use crate::objects::data_vars;
 use crate::pieces::{Tables, push_vars};
+use crate::variables::FullVar;
 use block_splitter::Piece;
 use board_config::Board;
 use code_blocks::Code;
 use energy_model::{base_of, count_blocks};
 use object_graph::Graph;
-use placement_programme::{Full, FullSide, FullVar};
 use profile_runner::Profile;
 use region_former::RegionTable;
 use rv32im::one_instruction;
@@ -76,7 +77,7 @@ fn static_vars(
         counts: &counts,
         board,
     };
-    push_vars(alloc, &mut vars, &tables, pieces)?;
+    push_vars(&mut vars, &tables, pieces)?;
     Ok(vars)
 }
 

@@ -1,34 +1,26 @@
 ghost use Rattle.std.specs.Prelude.{◌≡◌, ◌<◌, map, length, option_map, IfOk};
-ghost use Rattle.placement_programme.specs.{Plain.{plain_full_var}, Views.{plain_full_side, plain_full}};
-ghost use Rattle.placement_candidates.specs.{Parts.{plain_part, IsMixedSide, IsMixedOn, IsMix, CanMix}, Mixing.{sides_of, mixed_at, mixed_vars, CanMixSides}};
+ghost use Rattle.placement_candidates.specs.{FullVars.{plain_full_var}, FullViews.{plain_full_side, plain_full}, Parts.{plain_part, IsMixedSide, IsMixedOn, IsMix, CanMix}, Mixing.{sides_of, mixed_at, mixed_vars, CanMixSides}};
 
 use crate::counting::side_of;
+use crate::full_sides::{Full, FullSide};
 use crate::part::Part;
 use crate::selecting::rows_of;
 use crate::sums::{mixed_base, mixed_fixed, mixed_gain};
-use placement_programme::{Full, FullSide, FullVar};
+use crate::variables::FullVar;
 use std::alloc::{AllocError, Global};
 
 /// Variable `k` of a side, with its mixed gain.
-fn mixed_var(
-    alloc: Global,
-    parts: &[Part],
-    on: bool,
-    like: &FullSide,
-    k: usize,
-) -> Result<FullVar, AllocError>
+fn mixed_var(parts: &[Part], on: bool, like: &FullSide, k: usize) -> FullVar
     requires can { CanMixSides on (map plain_part parts.now) (plain_full_side like.now) }
     requires inside { k < length like.now.vars.items }
-    ensures { IfOk result (λ v. plain_full_var v ≡ mixed_at (sides_of on (map plain_part parts.now)) (plain_full_side like.now).vars k) }
+    ensures { plain_full_var result ≡ mixed_at (sides_of on (map plain_part parts.now)) (plain_full_side like.now).vars k }
 {
     let var = &like.vars[k];
-    let mut weights = Vec::new(alloc);
-    weights.extend_from_slice(&var.weights)?;
-    Ok(FullVar {
+    FullVar {
         name: var.name,
         gain: mixed_gain(parts, on, k),
-        weights,
-    })
+        weights: var.weights,
+    }
 }
 
 /// The variables of a side.
@@ -41,9 +33,9 @@ fn mixed_vars(
     requires { CanMixSides on (map plain_part parts.now) (plain_full_side like.now) }
     ensures { IfOk result (λ vars. map plain_full_var vars.items ≡ mixed_vars (sides_of on (map plain_part parts.now)) (plain_full_side like.now).vars (length like.now.vars.items)) }
 {
-    let mut vars = Vec::new(alloc);
+    let mut vars = Vec::with_capacity(alloc, like.vars.len())?;
     for k in 0..like.vars.len() {
-        vars.push(mixed_var(alloc, parts, on, like, k)?)?;
+        vars.push(mixed_var(parts, on, like, k))?;
     }
     Ok(vars)
 }

@@ -1,13 +1,15 @@
 ghost use Rattle.std.specs.Prelude.{◌≡◌, ◌+◌, ◌-◌, ◌*◌, ◌/◌, ◌%◌, ◌^◌, ◌<◌, ◌≤◌, ◌∷◌, ◌++◌, [], pos, ◌-ℤ◌, map, length, IfOk, OnOk};
 ghost use Rattle.cell_values.specs.Objects.{object_of};
-ghost use Rattle.placement_programme.specs.{Plain.{plain_full_var}, Rows.{rounded_up}};
-ghost use Rattle.placement_candidates.specs.Counted.{total, reads_of, writes_of, home_price, moved_price, counted_gain, counted_var, counted_vars, CountsAccesses};
+ghost use Rattle.placement_programme.specs.Rows.{rounded_up};
+ghost use Rattle.placement_candidates.specs.{FullVars.{plain_weights, plain_full_var}, Counted.{total, reads_of, writes_of, home_price, moved_price, counted_gain, counted_var, counted_vars, CountsAccesses}};
 
+use crate::row_ranges::RowRange;
+use crate::variables::{FullVar, Weights};
 use crate::weight_rows::JOB_BYTES;
 use board_config::{Board, Prices};
 use energy_model::{into_price, object_rounds};
 use object_graph::{Graph, Object};
-use placement_programme::{FullVar, VarName};
+use placement_programme::VarName;
 use profile_runner::Profile;
 use std::alloc::{AllocError, Global};
 
@@ -90,32 +92,47 @@ pub fn data_gain(profile: &Profile, graph: &Graph, k: usize, prices: &Prices) ->
     gain(reads, writes, &object, prices)
 }
 
+/// What an object weighs: its space, and its copy job.
+fn weights(object: &Object, grain: u32) -> Weights
+    requires { 0 < grain }
+    ensures { plain_weights result ≡ (0, rounded_up grain (object.now.home % grain + object.now.size)) ∷ (1, 44) ∷ [] }
+{
+    let space = RowRange {
+        first: 0,
+        count: 1,
+        value: data_span(object, grain),
+    };
+    let patch = RowRange {
+        first: 1,
+        count: 1,
+        value: JOB_BYTES,
+    };
+    let own = RowRange {
+        first: 2,
+        count: 0,
+        value: 1,
+    };
+    Weights { space, patch, own }
+}
+
 /// The variable of object `k`.
-fn var_of(
-    alloc: Global,
-    profile: &Profile,
-    graph: &Graph,
-    k: usize,
-    board: &Board,
-) -> Result<FullVar, AllocError>
+fn var_of(profile: &Profile, graph: &Graph, k: usize, board: &Board) -> FullVar
     requires inside { k < length graph.now.objects.items }
     requires accesses { CountsAccesses graph.now profile.now }
     requires grain { 0 < board.now.grain }
-    ensures { IfOk result (λ v. plain_full_var v ≡ counted_var board.now.prices profile.now graph.now board.now.grain k) }
+    ensures { plain_full_var result ≡ counted_var board.now.prices profile.now graph.now board.now.grain k }
 {
     let object = object_at(graph, k);
-    let weights = vec![in alloc; (0, data_span(&object, board.grain)), (1, JOB_BYTES)]?;
     let name = VarName::StaticData { object: k as u32 };
-    Ok(FullVar {
+    FullVar {
         name,
         gain: data_gain(profile, graph, k, &board.prices),
-        weights,
-    })
+        weights: weights(&object, board.grain),
+    }
 }
 
 /// The variable of object `k` behind those before it.
 fn push_var(
-    alloc: Global,
     vars: &mut Vec<FullVar>,
     profile: &Profile,
     graph: &Graph,
@@ -127,7 +144,7 @@ fn push_var(
     requires grain { 0 < board.now.grain }
     ensures { OnOk result (map plain_full_var vars.new.items ≡ map plain_full_var vars.old.items ++ counted_var board.now.prices profile.now graph.now board.now.grain k ∷ []) }
 {
-    let var = var_of(alloc, profile, graph, k, board)?;
+    let var = var_of(profile, graph, k, board);
     match vars.push(var) {
         Ok(()) => Ok(()),
         Err(error) => Err(error.into()),
@@ -148,7 +165,7 @@ pub(crate) fn data_vars(
     let count = graph.objects.len();
     let mut vars = Vec::new(alloc);
     for k in 0..count {
-        push_var(alloc, &mut vars, profile, graph, k, board)?;
+        push_var(&mut vars, profile, graph, k, board)?;
     }
     Ok(vars)
 }

@@ -2,8 +2,8 @@ ghost use Rattle.std.specs.Prelude.{◌≡◌, ◌+◌, ◌*◌, ◌<◌, ◌≤
 ghost use Rattle.std.specs.List.{All, filter};
 ghost use Rattle.cell_values.specs.Objects.{datum_of};
 ghost use Rattle.energy_model.specs.Counts.{AreBlockCounts};
-ghost use Rattle.placement_programme.specs.{Plain.{plain_full_var}, Rows.{static_data, static_code, overlay_data, overlay_code, kept_data, pairs_of}};
-ghost use Rattle.placement_candidates.specs.{OverlayCounted.{scene_in, on_var, on_vars, piece_region, CanWeigh, CanWeighPiece, CanGain}, Stated.{part_of}, Overlaid.{static_objects, static_pieces, objects_in, pieces_in, objects_of_pair, overlaid_objects, overlaid_pieces, kept_objects}};
+ghost use Rattle.placement_programme.specs.Rows.{static_data, static_code, overlay_data, overlay_code, kept_data, pairs_of};
+ghost use Rattle.placement_candidates.specs.{FullVars.{plain_full_var}, OverlayCounted.{scene_in, on_var, on_vars, piece_region, CanWeigh, CanWeighPiece, CanGain}, Stated.{part_of}, Overlaid.{static_objects, static_pieces, objects_in, pieces_in, objects_of_pair, overlaid_objects, overlaid_pieces, kept_objects}};
 
 use crate::measured::Measured;
 use crate::overlay_gains::{
@@ -14,18 +14,13 @@ use crate::overlay_rows::{
     kept_data, overlay_code, overlay_data, static_code, static_data, weights_of,
 };
 use crate::piece_regions::piece_regions;
+use crate::variables::FullVar;
 use block_splitter::Piece;
 use energy_model::BlockCounts;
-use placement_programme::FullVar;
 use std::alloc::{AllocError, Global};
 
 /// The variable of object `o` throughout.
-fn push_static_data(
-    alloc: Global,
-    vars: &mut Vec<FullVar>,
-    m: &Measured<'_>,
-    o: u32,
-) -> Result<(), AllocError>
+fn push_static_data(vars: &mut Vec<FullVar>, m: &Measured<'_>, o: u32) -> Result<(), AllocError>
     requires weigh { CanWeigh m.now }
     requires gain { CanGain m.now }
     requires inside { o < length m.now.graph.now.objects.items }
@@ -34,7 +29,7 @@ fn push_static_data(
     let rows = rows_of(m);
     let datum = datum_of(m, o);
     let item = static_data(&rows, &datum);
-    let weights = weights_of(alloc, &rows, &item)?;
+    let weights = weights_of(&rows, &item);
     let var = FullVar {
         name: item.name,
         gain: static_data_gain(m, o),
@@ -48,7 +43,6 @@ fn push_static_data(
 
 /// The variable of a piece throughout.
 fn push_static_code(
-    alloc: Global,
     vars: &mut Vec<FullVar>,
     m: &Measured<'_>,
     counts: &BlockCounts,
@@ -63,7 +57,7 @@ fn push_static_code(
     let rows = rows_of(m);
     let part = part_of(m, piece);
     let item = static_code(&rows, &part);
-    let weights = weights_of(alloc, &rows, &item)?;
+    let weights = weights_of(&rows, &item);
     let var = FullVar {
         name: item.name,
         gain: static_code_gain(m, counts, piece),
@@ -77,7 +71,6 @@ fn push_static_code(
 
 /// The variable of object `o` in region `r`.
 fn push_overlay_data(
-    alloc: Global,
     vars: &mut Vec<FullVar>,
     m: &Measured<'_>,
     r: u32,
@@ -93,7 +86,7 @@ fn push_overlay_data(
     let rows = rows_of(m);
     let datum = datum_of(m, o);
     let item = overlay_data(&rows, r, &datum);
-    let weights = weights_of(alloc, &rows, &item)?;
+    let weights = weights_of(&rows, &item);
     let var = FullVar {
         name: item.name,
         gain: overlay_data_gain(m, r, o),
@@ -107,7 +100,6 @@ fn push_overlay_data(
 
 /// The variable of a piece in region `r`.
 fn push_overlay_code(
-    alloc: Global,
     vars: &mut Vec<FullVar>,
     m: &Measured<'_>,
     counts: &BlockCounts,
@@ -124,7 +116,7 @@ fn push_overlay_code(
     let rows = rows_of(m);
     let part = part_of(m, piece);
     let item = overlay_code(&rows, r, &part);
-    let weights = weights_of(alloc, &rows, &item)?;
+    let weights = weights_of(&rows, &item);
     let var = FullVar {
         name: item.name,
         gain: overlay_code_gain(m, counts, r, piece),
@@ -138,7 +130,6 @@ fn push_overlay_code(
 
 /// The variable of object `o` for a pair of regions.
 fn push_kept_data(
-    alloc: Global,
     vars: &mut Vec<FullVar>,
     m: &Measured<'_>,
     pair: u32,
@@ -154,7 +145,7 @@ fn push_kept_data(
     let rows = rows_of(m);
     let datum = datum_of(m, o);
     let item = kept_data(&rows, pair, &datum);
-    let weights = weights_of(alloc, &rows, &item)?;
+    let weights = weights_of(&rows, &item);
     let var = FullVar {
         name: item.name,
         gain: kept_data_gain(m, pair, o),
@@ -167,24 +158,19 @@ fn push_kept_data(
 }
 
 /// The variables of all objects throughout, by home.
-fn push_static_objects(
-    alloc: Global,
-    vars: &mut Vec<FullVar>,
-    m: &Measured<'_>,
-) -> Result<(), AllocError>
+fn push_static_objects(vars: &mut Vec<FullVar>, m: &Measured<'_>) -> Result<(), AllocError>
     requires weigh { CanWeigh m.now }
     requires gain { CanGain m.now }
     ensures { OnOk result (map plain_full_var vars.new.items ≡ map plain_full_var vars.old.items ++ map (on_var m.now) (static_objects m.now.graph.now (length m.now.graph.now.objects.items))) }
 {
     for o in 0..m.graph.objects.len() {
-        push_static_data(alloc, vars, m, o as u32)?;
+        push_static_data(vars, m, o as u32)?;
     }
     Ok(())
 }
 
 /// The variables of all pieces throughout.
 fn push_static_pieces(
-    alloc: Global,
     vars: &mut Vec<FullVar>,
     m: &Measured<'_>,
     counts: &BlockCounts,
@@ -196,14 +182,13 @@ fn push_static_pieces(
     ensures { OnOk result (map plain_full_var vars.new.items ≡ map plain_full_var vars.old.items ++ map (on_var m.now) (static_pieces (scene_in m.now) m.now.pieces.now)) }
 {
     for k in 0..m.pieces.len() {
-        push_static_code(alloc, vars, m, counts, &m.pieces[k])?;
+        push_static_code(vars, m, counts, &m.pieces[k])?;
     }
     Ok(())
 }
 
 /// The variables of objects in region `r`.
 fn push_objects_in(
-    alloc: Global,
     vars: &mut Vec<FullVar>,
     m: &Measured<'_>,
     objects: &[u32],
@@ -218,14 +203,13 @@ fn push_objects_in(
 {
     for k in 0..objects.len() {
         let object = objects[k];
-        push_overlay_data(alloc, vars, m, r, object)?;
+        push_overlay_data(vars, m, r, object)?;
     }
     Ok(())
 }
 
 /// The variables of objects in all regions.
 fn push_overlaid_objects(
-    alloc: Global,
     vars: &mut Vec<FullVar>,
     m: &Measured<'_>,
     objects: &[u32],
@@ -236,14 +220,13 @@ fn push_overlaid_objects(
     ensures { OnOk result (map plain_full_var vars.new.items ≡ map plain_full_var vars.old.items ++ map (on_var m.now) (overlaid_objects (scene_in m.now) objects.now m.now.regions.now.count)) }
 {
     for before in 0..m.regions.count {
-        push_objects_in(alloc, vars, m, objects, before + 1)?;
+        push_objects_in(vars, m, objects, before + 1)?;
     }
     Ok(())
 }
 
 /// The variables of objects for a pair of regions.
 fn push_objects_of_pair(
-    alloc: Global,
     vars: &mut Vec<FullVar>,
     m: &Measured<'_>,
     objects: &[u32],
@@ -258,7 +241,7 @@ fn push_objects_of_pair(
 {
     for k in 0..objects.len() {
         let object = objects[k];
-        push_kept_data(alloc, vars, m, pair, object)?;
+        push_kept_data(vars, m, pair, object)?;
     }
     Ok(())
 }
@@ -277,7 +260,6 @@ fn pairs_of(m: &Measured<'_>) -> u32
 
 /// The variables of objects for all pairs.
 fn push_kept_objects(
-    alloc: Global,
     vars: &mut Vec<FullVar>,
     m: &Measured<'_>,
     objects: &[u32],
@@ -289,14 +271,13 @@ fn push_kept_objects(
 {
     let pairs = pairs_of(m);
     for before in 0..pairs {
-        push_objects_of_pair(alloc, vars, m, objects, before + 1)?;
+        push_objects_of_pair(vars, m, objects, before + 1)?;
     }
     Ok(())
 }
 
 /// The variables of pieces in region `r`, where this is the region of each piece.
 fn push_pieces_in(
-    alloc: Global,
     vars: &mut Vec<FullVar>,
     m: &Measured<'_>,
     counts: &BlockCounts,
@@ -314,7 +295,7 @@ fn push_pieces_in(
 {
     for k in 0..m.pieces.len() {
         if table[k] == r {
-            push_overlay_code(alloc, vars, m, counts, r, &m.pieces[k])?;
+            push_overlay_code(vars, m, counts, r, &m.pieces[k])?;
         }
     }
     Ok(())
@@ -322,7 +303,6 @@ fn push_pieces_in(
 
 /// The variables of pieces in all regions.
 fn push_pieces_by(
-    alloc: Global,
     vars: &mut Vec<FullVar>,
     m: &Measured<'_>,
     counts: &BlockCounts,
@@ -336,7 +316,7 @@ fn push_pieces_by(
     ensures { OnOk result (map plain_full_var vars.new.items ≡ map plain_full_var vars.old.items ++ map (on_var m.now) (overlaid_pieces (scene_in m.now) m.now.pieces.now m.now.regions.now.count)) }
 {
     for before in 0..m.regions.count {
-        push_pieces_in(alloc, vars, m, counts, table, before + 1)?;
+        push_pieces_in(vars, m, counts, table, before + 1)?;
     }
     Ok(())
 }
@@ -355,7 +335,7 @@ fn push_overlaid_pieces(
     ensures { OnOk result (map plain_full_var vars.new.items ≡ map plain_full_var vars.old.items ++ map (on_var m.now) (overlaid_pieces (scene_in m.now) m.now.pieces.now m.now.regions.now.count)) }
 {
     let table = piece_regions(alloc, m)?;
-    match push_pieces_by(alloc, vars, m, counts, &table) {
+    match push_pieces_by(vars, m, counts, &table) {
         Ok(()) => Ok(()),
         Err(error) => Err(error),
     }
@@ -376,10 +356,10 @@ pub(crate) fn on_vars(
     ensures { IfOk result (λ vars. map plain_full_var vars.items ≡ on_vars m.now objects.now) }
 {
     let mut vars = Vec::new(alloc);
-    push_static_objects(alloc, &mut vars, m)?;
-    push_static_pieces(alloc, &mut vars, m, counts)?;
-    push_overlaid_objects(alloc, &mut vars, m, objects)?;
+    push_static_objects(&mut vars, m)?;
+    push_static_pieces(&mut vars, m, counts)?;
+    push_overlaid_objects(&mut vars, m, objects)?;
     push_overlaid_pieces(alloc, &mut vars, m, counts)?;
-    push_kept_objects(alloc, &mut vars, m, objects)?;
+    push_kept_objects(&mut vars, m, objects)?;
     Ok(vars)
 }

@@ -1,10 +1,11 @@
-ghost use Rattle.std.specs.Prelude.{◌≡◌, ◌+◌, ◌-◌, ◌*◌, ◌%◌, ◌^◌, ◌<◌, ◌≤◌, ◌∷◌, ◌++◌, [], if◌then◌else◌, IfOk, OnOk};
+ghost use Rattle.std.specs.Prelude.{◌≡◌, ◌+◌, ◌-◌, ◌*◌, ◌%◌, ◌^◌, ◌<◌, ◌≤◌, ◌∷◌, ◌++◌, [], if◌then◌else◌};
 ghost use Rattle.placement_programme.specs.Rows.{block_row, object_row, static_data, static_code, overlay_data, overlay_code, kept_data};
-ghost use Rattle.placement_candidates.specs.OverlayRows.{IsSmall, IsCandidate, IsDatum, IsPart, rows_layout, weights_of};
+ghost use Rattle.placement_candidates.specs.{FullVars.{plain_weights}, OverlayRows.{IsSmall, IsCandidate, IsDatum, IsPart, rows_layout, weights_of}};
 
-use crate::weight_rows::{JOB_BYTES, push_rows};
+use crate::row_ranges::RowRange;
+use crate::variables::Weights;
+use crate::weight_rows::JOB_BYTES;
 use placement_programme::VarName;
-use std::alloc::{AllocError, Global};
 
 /// What the rows with overlay depend on.
 #[derive(Clone, Copy)]
@@ -52,21 +53,28 @@ pub(crate) struct RowItem {
 }
 
 /// What an item weighs.
-pub(crate) fn weights_of(
-    alloc: Global,
-    rows: &OverlayRows,
-    item: &RowItem,
-) -> Result<Vec<(u32, u64)>, AllocError>
+pub(crate) fn weights_of(rows: &OverlayRows, item: &RowItem) -> Weights
     requires small { IsSmall rows.now }
     requires space { item.now.region + item.now.regions < 2 ^ 32 }
     requires own { item.now.row + item.now.rows < 2 ^ 32 }
-    ensures { IfOk result (λ v. v.items ≡ weights_of rows.now item.now) }
+    ensures { plain_weights result ≡ weights_of rows.now item.now }
 {
-    let mut weights = Vec::new(alloc);
-    push_rows(&mut weights, item.region, item.regions, item.span)?;
-    weights.push((rows.regions + 1, item.patch))?;
-    push_rows(&mut weights, item.row, item.rows, 1)?;
-    Ok(weights)
+    let space = RowRange {
+        first: item.region,
+        count: item.regions,
+        value: item.span,
+    };
+    let patch = RowRange {
+        first: rows.regions + 1,
+        count: 1,
+        value: item.patch,
+    };
+    let own = RowRange {
+        first: item.row,
+        count: item.rows,
+        value: 1,
+    };
+    Weights { space, patch, own }
 }
 
 /// The row of block `b`.

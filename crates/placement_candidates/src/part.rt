@@ -1,5 +1,3 @@
-use placement_programme::Full;
-
 /// What one of several runs states, with all its candidates, and the weight of the run.
 #[derive(Drop)]
 pub struct Part {
@@ -7,3 +5,5 @@ pub struct Part {
     pub weight: u32,
     pub full: Full,
 }
+
+use crate::full_sides::Full;

@@ -1,16 +1,18 @@
 ghost use Rattle.std.specs.Prelude.{◌≡◌, ◌+◌, ◌-◌, ◌*◌, ◌^◌, ◌<◌, ◌≤◌, ◌∷◌, ◌++◌, [], pos, ◌-ℤ◌, map, length, IfOk, OnOk};
 ghost use Rattle.std.specs.List.{All};
-ghost use Rattle.placement_programme.specs.{Plain.{plain_full_var}, Rows.{rounded_up, in_rows}};
+ghost use Rattle.placement_programme.specs.Rows.{rounded_up, in_rows};
 ghost use Rattle.energy_model.specs.Counts.{most_run};
-ghost use Rattle.placement_candidates.specs.Counted.{copied_price, piece_weights, counted_code_gain, counted_code_var, CanCountPiece, AreTables};
+ghost use Rattle.placement_candidates.specs.{FullVars.{plain_weights, plain_full_var}, Counted.{copied_price, piece_weights, counted_code_gain, counted_code_var, CanCountPiece, AreTables}};
 
+use crate::row_ranges::RowRange;
+use crate::variables::{FullVar, Weights};
 use crate::weight_rows::{JOB_BYTES, STUB_BYTES, push_rows};
 use block_splitter::{BlockRange, Piece};
 use board_config::{Board, Prices};
 use code_blocks::Code;
 use energy_model::{BlockCounts, PieceCounts, count_piece, into_price};
 use object_graph::Graph;
-use placement_programme::{FullVar, VarName};
+use placement_programme::VarName;
 use profile_runner::Profile;
 use std::alloc::{AllocError, Global};
 
@@ -65,17 +67,29 @@ fn patch_bytes(piece: &Piece) -> u64
 }
 
 /// What a piece weighs: its space, its patch bytes, and a row for each of its blocks.
-fn weights(alloc: Global, piece: &Piece, grain: u32) -> Result<Vec<(u32, u64)>, AllocError>
+fn weights(piece: &Piece, grain: u32) -> Weights
     requires grain { 0 < grain }
     requires ordered { piece.now.first ≤ piece.now.last }
     requires few { piece.now.last < 2 ^ 31 }
     requires entries { length piece.now.entries.items ≤ 2 ^ 32 }
-    ensures { IfOk result (λ v. v.items ≡ piece_weights grain piece.now) }
+    ensures { plain_weights result ≡ piece_weights grain piece.now }
 {
-    let mut weights = vec![in alloc; (0, code_span(piece.bytes, grain)), (1, patch_bytes(piece))]?;
-    let blocks = piece.last + 1 - piece.first;
-    push_rows(&mut weights, 2 + piece.first, blocks, 1)?;
-    Ok(weights)
+    let space = RowRange {
+        first: 0,
+        count: 1,
+        value: code_span(piece.bytes, grain),
+    };
+    let patch = RowRange {
+        first: 1,
+        count: 1,
+        value: patch_bytes(piece),
+    };
+    let own = RowRange {
+        first: 2 + piece.first,
+        count: piece.last + 1 - piece.first,
+        value: 1,
+    };
+    Weights { space, patch, own }
 }
 
 /// What a piece saves, by what the tables count of it.
@@ -99,37 +113,31 @@ fn gain_of(tables: &Tables<'_>, piece: &Piece) -> i128
 }
 
 /// The variable of a piece.
-fn var_of(alloc: Global, tables: &Tables<'_>, piece: &Piece) -> Result<FullVar, AllocError>
+fn var_of(tables: &Tables<'_>, piece: &Piece) -> FullVar
     requires tables { AreTables tables.now.code.now tables.now.graph.now tables.now.profile.now tables.now.counts.now }
     requires piece { CanCountPiece tables.now.code.now piece.now }
     requires grain { 0 < tables.now.board.now.grain }
-    ensures { IfOk result (λ v. plain_full_var v ≡ counted_code_var tables.now.board.now.prices tables.now.profile.now tables.now.code.now tables.now.graph.now tables.now.board.now.grain piece.now) }
+    ensures { plain_full_var result ≡ counted_code_var tables.now.board.now.prices tables.now.profile.now tables.now.code.now tables.now.graph.now tables.now.board.now.grain piece.now }
 {
-    let weights = weights(alloc, piece, tables.board.grain)?;
     let name = VarName::StaticCode {
         first: piece.first,
         last: piece.last,
     };
-    Ok(FullVar {
+    FullVar {
         name,
         gain: gain_of(tables, piece),
-        weights,
-    })
+        weights: weights(piece, tables.board.grain),
+    }
 }
 
 /// The variable of a piece behind those before it.
-fn push_var(
-    alloc: Global,
-    vars: &mut Vec<FullVar>,
-    tables: &Tables<'_>,
-    piece: &Piece,
-) -> Result<(), AllocError>
+fn push_var(vars: &mut Vec<FullVar>, tables: &Tables<'_>, piece: &Piece) -> Result<(), AllocError>
     requires tables { AreTables tables.now.code.now tables.now.graph.now tables.now.profile.now tables.now.counts.now }
     requires piece { CanCountPiece tables.now.code.now piece.now }
     requires grain { 0 < tables.now.board.now.grain }
     ensures { OnOk result (map plain_full_var vars.new.items ≡ map plain_full_var vars.old.items ++ counted_code_var tables.now.board.now.prices tables.now.profile.now tables.now.code.now tables.now.graph.now tables.now.board.now.grain piece.now ∷ []) }
 {
-    let var = var_of(alloc, tables, piece)?;
+    let var = var_of(tables, piece);
     match vars.push(var) {
         Ok(()) => Ok(()),
         Err(error) => Err(error.into()),
@@ -138,7 +146,6 @@ fn push_var(
 
 /// Adds the variables of pieces, in their order.
 pub(crate) fn push_vars(
-    alloc: Global,
     vars: &mut Vec<FullVar>,
     tables: &Tables<'_>,
     pieces: &[Piece],
@@ -149,7 +156,7 @@ pub(crate) fn push_vars(
     ensures { OnOk result (map plain_full_var vars.new.items ≡ map plain_full_var vars.old.items ++ map (counted_code_var tables.now.board.now.prices tables.now.profile.now tables.now.code.now tables.now.graph.now tables.now.board.now.grain) pieces.now) }
 {
     for k in 0..pieces.len() {
-        push_var(alloc, vars, tables, &pieces[k])?;
+        push_var(vars, tables, &pieces[k])?;
     }
     Ok(())
 }

@@ -2,11 +2,10 @@ ghost use Rattle.std.specs.Prelude.{◌≡◌, ℕ, Bool, ◌<◌, ◌≤◌, na
 ghost use Rattle.std.specs.List.{count_by};
 ghost use Rattle.list_checks.specs.Sorted.{IsSorted, count_below};
 ghost use Rattle.energy_model.specs.Copied.{values};
-ghost use Rattle.placement_programme.specs.Plain.{plain_full_var};
-ghost use Rattle.placement_candidates.specs.{Selected.{worth_at}, Ranking.{least_of, IsLeast, IsCut}};
+ghost use Rattle.placement_candidates.specs.{FullVars.{plain_full_var}, Selected.{worth_at}, Ranking.{least_of, IsLeast, IsCut}};
 
 use crate::selecting::{MOST_VARS, worth_at};
-use placement_programme::FullVar;
+use crate::variables::FullVar;
 use std::alloc::{AllocError, Global};
 
 /// Where the variables are cut off that save least.

@@ -1,10 +1,13 @@
 ghost use Rattle.std.specs.Prelude.{◌≡◌, ◌+◌, ◌<◌, ◌==◌, nat_lt, ◌&&◌, ◌||◌, ◌++◌, map, length, option_map, IfOk, OnOk};
 ghost use Rattle.list_checks.specs.Tests.{any_below};
-ghost use Rattle.placement_programme.specs.{Plain.{plain_var, plain_full_var}, Bounds.{IsWithinBounds}, Views.{plain_side, plain_programme, plain_full_side, plain_full}};
-ghost use Rattle.placement_candidates.specs.{Selected.{worth, worth_at, is_kept, plain_kept, kept_at, kept_below, selected_side, is_overlay, saves_by_overlay, var_in, has_overlay, selected_on, selected}, Ranking.{IsCut, ties_before}};
+ghost use Rattle.placement_programme.specs.{Plain.{plain_var}, Bounds.{IsWithinBounds}, Views.{plain_side, plain_programme}};
+ghost use Rattle.placement_candidates.specs.{FullVars.{plain_weights, plain_full_var}, FullViews.{plain_full_side, plain_full}, Selected.{worth, worth_at, is_kept, plain_kept, kept_at, kept_below, selected_side, is_overlay, saves_by_overlay, var_in, has_overlay, selected_on, selected}, Ranking.{IsCut, ties_before}};
 
+use crate::full_sides::{Full, FullSide};
 use crate::ranking::{Cut, find_cut};
-use placement_programme::{Full, FullSide, FullVar, Programme, Side, Var, VarName};
+use crate::variables::{FullVar, Weights};
+use crate::weight_rows::push_range;
+use placement_programme::{Programme, Side, Var, VarName};
 use std::alloc::{AllocError, Global};
 
 /// How many variables a side has at most.
@@ -44,12 +47,27 @@ fn is_kept(vars: &[FullVar], cut: &Cut, ties: usize, k: usize) -> bool
     passes(worth_at(vars, k), cut, ties)
 }
 
+/// In how many rows an item weighs something.
+fn count_of(weights: &Weights) -> usize {
+    weights.space.count as usize + weights.patch.count as usize + weights.own.count as usize
+}
+
+/// Weights one by one.
+fn spelled(alloc: Global, weights: &Weights) -> Result<Vec<(u32, u64)>, AllocError>
+    ensures { IfOk result (λ v. v.items ≡ plain_weights weights.now) }
+{
+    let mut rows = Vec::with_capacity(alloc, count_of(weights))?;
+    push_range(&mut rows, &weights.space)?;
+    push_range(&mut rows, &weights.patch)?;
+    push_range(&mut rows, &weights.own)?;
+    Ok(rows)
+}
+
 /// A variable as it is kept.
 fn kept_var(alloc: Global, var: &FullVar) -> Result<Var, AllocError>
     ensures { IfOk result (λ v. plain_var v ≡ plain_kept (plain_full_var var.now)) }
 {
-    let mut weights = Vec::new(alloc);
-    weights.extend_from_slice(&var.weights)?;
+    let weights = spelled(alloc, &var.weights)?;
     Ok(Var {
         name: var.name,
         gain: worth(var),

@@ -1,11 +1,10 @@
 // The sums of a mix, part by part.
 ghost use Rattle.std.specs.Prelude.{◌≡◌, ◌*◌, ◌^◌, ◌<◌, ◌≤◌, ◌*ℤ◌, pos, unsigned_abs, map, length};
 ghost use Rattle.std.specs.List.{All, sum_by};
-ghost use Rattle.placement_programme.specs.Views.{plain_full_side};
-ghost use Rattle.placement_candidates.specs.{Stated.{IsSmallSide}, Parts.{plain_part, gain_of, mixed_fixed, mixed_gain, IsSmallPart}, Mixing.{part_sides, sides_of, HasVar}};
+ghost use Rattle.placement_candidates.specs.{FullViews.{plain_full_side}, Stated.{IsSmallSide}, Parts.{plain_part, gain_of, mixed_fixed, mixed_gain, IsSmallPart}, Mixing.{part_sides, sides_of, HasVar}};
 
+use crate::full_sides::FullSide;
 use crate::part::Part;
-use placement_programme::FullSide;
 
 /// A part's energy with everything at home, by weight.
 fn part_base(part: &Part) -> u128

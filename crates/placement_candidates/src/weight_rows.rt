@@ -1,6 +1,8 @@
 ghost use Rattle.std.specs.Prelude.{◌≡◌, ◌+◌, ◌^◌, ◌<◌, ◌++◌, OnOk};
 ghost use Rattle.placement_programme.specs.Rows.{in_rows};
+ghost use Rattle.placement_candidates.specs.FullVars.{weights_in};
 
+use crate::row_ranges::RowRange;
 use std::alloc::AllocError;
 
 /// The patch bytes of a copy job, and of the stub of an entry.
@@ -22,4 +24,11 @@ pub fn push_rows(
         weights.push((first + k, value))?;
     }
     Ok(())
+}
+
+/// Adds a value in each row of a range.
+pub(crate) fn push_range(weights: &mut Vec<(u32, u64)>, range: &RowRange) -> Result<(), AllocError>
+    ensures { OnOk result (weights.new.items ≡ weights.old.items ++ weights_in range.now) }
+{
+    push_rows(weights, range.first, range.count, range.value)
 }

@@ -1,16 +1,17 @@
 ghost use Rattle.std.specs.Prelude.{◌≡◌, ◌+◌, ◌-◌, ◌^◌, ◌≤◌, ◌<◌, ◌&&◌, nat_lt, nat_le, List, map, length, option_map, IfOk};
 ghost use Rattle.elf_reader.specs.declared.view.ElfView.{ElfView};
-ghost use Rattle.placement_programme.specs.{Plain.{plain_full_var}, Rows.{fixed_bytes}, Views.{plain_full_side, plain_full}};
+ghost use Rattle.placement_programme.specs.Rows.{fixed_bytes};
 ghost use Rattle.profile_runner.specs.Transition.{Transition};
 ghost use Rattle.energy_model.specs.{Scenes.{AreOfSameFile}, OverlayCost.{overlay_cost}};
-ghost use Rattle.placement_candidates.specs.{Counted.{stub_price}, Stated.{AreSomePieces, IsSmallSide}, Overlaid.{AreOverlaidObjects, IsSmallOn, IsWholeFull}, OverlayCounted.{scene_in, layout_in, on_vars, counted_on_side, counted_on, CanWeigh, CanGain, CanCountOverlay}};
+ghost use Rattle.placement_candidates.specs.{FullVars.{plain_full_var}, FullViews.{plain_full_side, plain_full}, Counted.{stub_price}, Stated.{AreSomePieces, IsSmallSide}, Overlaid.{AreOverlaidObjects, IsSmallOn, IsWholeFull}, OverlayCounted.{scene_in, layout_in, on_vars, counted_on_side, counted_on, CanWeigh, CanGain, CanCountOverlay}};
 
 use crate::counting::{full, side_of, stub_price};
+use crate::full_sides::{Full, FullSide};
 use crate::measured::Measured;
 use crate::overlaid_vars::on_vars;
 use crate::overlay_parts::{capacities, fixed_bytes};
+use crate::variables::FullVar;
 use energy_model::{count_blocks, overlay_cost};
-use placement_programme::{Full, FullSide, FullVar};
 use rv32im::one_instruction;
 use std::alloc::{AllocError, Global};
 

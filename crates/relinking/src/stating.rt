@@ -1,15 +1,15 @@
 ghost use Rattle.std.specs.Prelude.{ℕ, List, Err, IfOk, IfErr};
 ghost use Rattle.elf_reader.specs.File.{plain_view};
 ghost use Rattle.board_config.specs.declared.board.Board.{Board};
-ghost use Rattle.placement_programme.specs.Views.{plain_full, plain_programme};
-ghost use Rattle.placement_candidates.specs.Overlaid.{AreOverlaidObjects};
+ghost use Rattle.placement_programme.specs.Views.{plain_programme};
+ghost use Rattle.placement_candidates.specs.{FullViews.{plain_full}, Overlaid.{AreOverlaidObjects}};
 ghost use Rattle.relink_core.specs.Choices.{IsAnalysisOf};
 ghost use Rattle.relinking.specs.{Runs.{ReportsCounts}, MeasuredRuns.{EndsSo}, ProgrammeOfRun.{CountsProgramme, StatesFull}};
 
 use crate::measuring::{MeasuredEnd, measured_run};
 use board_config::Board;
-use placement_candidates::{Measured, overlaid_objects, select, whole_full};
-use placement_programme::{Full, Programme};
+use placement_candidates::{Full, Measured, overlaid_objects, select, whole_full};
+use placement_programme::Programme;
 use profile_runner::{Profile, ProfileFault};
 use relink_core::Analysis;
 use shelf_io::Progress;

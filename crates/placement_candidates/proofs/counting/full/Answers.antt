@@ -1,6 +1,6 @@
 use Rattle.std.proofs.Common.{ap}
 use Rattle.std.specs.Prelude.{option_map}
-use Rattle.placement_programme.specs.Views.{plain_full, plain_full_side}
+use Rattle.placement_candidates.specs.FullViews.{plain_full, plain_full_side}
 use Rattle.placement_candidates.proofs.StatedLemmas.{can_count, full_stated}
 use Rattle.placement_candidates.proofs.counting.full.Goals as goal
 

@@ -1,5 +1,5 @@
 use Rattle.std.proofs.Common.{map, option_map, slice_index_or, ap}
-use Rattle.placement_programme.specs.Views.{plain_full_side}
+use Rattle.placement_candidates.specs.FullViews.{plain_full_side}
 use Rattle.placement_candidates.specs.Parts.{plain_part}
 use Rattle.placement_candidates.proofs.SumLemmas.{first_is}
 use Rattle.placement_candidates.proofs.MixLemmas.{on_can_mix, on_is, on_none}

@@ -1,8 +1,9 @@
 use Rattle.std.proofs.Common.{◌≡◌, ◌∙◌, length, map, sym, ap, subst}
 use Rattle.std.proofs.lemmas.List.{length-map}
-use Rattle.placement_programme.specs.Plain.{PlainFullSide, plain_full_var}
+use Rattle.placement_programme.specs.Plain.{PlainFullSide}
+use Rattle.placement_candidates.specs.FullVars.{plain_full_var}
 use Rattle.placement_programme.specs.Bounds.{IsWithinFullBounds}
-use Rattle.placement_programme.specs.Views.{plain_full_side}
+use Rattle.placement_candidates.specs.FullViews.{plain_full_side}
 use Rattle.placement_candidates.specs.Parts.{plain_part, IsMixedSide}
 use Rattle.placement_candidates.specs.Mixing.{sides_of, mixed_vars}
 use Rattle.placement_candidates.proofs.MixLemmas.{side_within, side_is}

@@ -1,6 +1,6 @@
 use Rattle.std.proofs.Common.{◌≡◌, map}
-use Rattle.placement_programme.specs.Plain.{plain_full_var}
-use Rattle.placement_programme.specs.Views.{plain_full_side}
+use Rattle.placement_candidates.specs.FullVars.{plain_full_var}
+use Rattle.placement_candidates.specs.FullViews.{plain_full_side}
 use Rattle.placement_candidates.specs.Parts.{plain_part}
 use Rattle.placement_candidates.specs.Mixing.{sides_of, mixed_vars}
 use Rattle.placement_candidates.proofs.mixing.mixed_vars.Given as goal

@@ -1,5 +1,5 @@
 use Rattle.std.proofs.Common.{◌≡◌, map}
-use Rattle.placement_programme.specs.Plain.{plain_full_var}
+use Rattle.placement_candidates.specs.FullVars.{plain_full_var}
 use Rattle.placement_candidates.specs.Counted.{counted_vars}
 use Rattle.placement_candidates.proofs.objects.data_vars.Given as goal
 

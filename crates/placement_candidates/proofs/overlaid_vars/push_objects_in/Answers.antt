@@ -1,5 +1,5 @@
 use Rattle.std.proofs.Common.{◌+◌, ◌∷◌, [], map, slice_index_or, take}
-use Rattle.placement_programme.specs.Plain.{plain_full_var}
+use Rattle.placement_candidates.specs.FullVars.{plain_full_var}
 use Rattle.std.specs.Prelude.{ℕ}
 use Rattle.placement_programme.specs.Rows.{overlay_data}
 use Rattle.cell_values.specs.Objects.{datum_of}

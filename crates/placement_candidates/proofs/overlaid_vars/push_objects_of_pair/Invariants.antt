@@ -1,5 +1,5 @@
 use Rattle.std.proofs.Common.{◌≡◌, ◌++◌, map, take}
-use Rattle.placement_programme.specs.Plain.{plain_full_var}
+use Rattle.placement_candidates.specs.FullVars.{plain_full_var}
 use Rattle.placement_candidates.specs.OverlayCounted.{scene_in, on_var}
 use Rattle.placement_candidates.specs.Overlaid.{objects_of_pair}
 use Rattle.placement_candidates.proofs.overlaid_vars.push_objects_of_pair.Given as goal

@@ -12,5 +12,5 @@ use Rattle.placement_candidates.proofs.overlaid_vars.push_overlay_code.Goals as 
 pub returns-in-Ok : goal.returns-in-Ok
 returns-in-Ok c =
     let fits : FitsSigned w128 c.overlay_code_gain.result = search rules in
-    pushed Part c.args.m.now c.rows_of-rows.result c.overlay_code-item.result (record { name = c.overlay_code-item.result.name; gain = c.overlay_code_gain.result; weights = c.in_ok-weights.weights }) (λ (r : OverlayRows) (p : Part). IsPart r c.part_of-part.result p) (overlay_code c.args.r) (part_of (scene_in c.args.m.now) c.args.piece.now)
-    c.args.vars.now.items c.push.new.self.items c.rows_of-rows.ensures c.overlay_code-item.ensures c.part_of-part.ensures.is refl c.overlay_code_gain.ensures c.in_ok-weights.ensures (c.in-Ok.ensures.items ∙ ap (λ (z : ℤ). c.args.vars.now.items ++ (record { name = c.overlay_code-item.result.name; gain = z; weights = c.in_ok-weights.weights }) ∷ []) (to_z-of_z w128 c.overlay_code_gain.result fits))
+    pushed Part c.args.m.now c.rows_of-rows.result c.overlay_code-item.result (record { name = c.overlay_code-item.result.name; gain = c.overlay_code_gain.result; weights = c.weights_of-weights.result }) (λ (r : OverlayRows) (p : Part). IsPart r c.part_of-part.result p) (overlay_code c.args.r) (part_of (scene_in c.args.m.now) c.args.piece.now)
+    c.args.vars.now.items c.push.new.self.items c.rows_of-rows.ensures c.overlay_code-item.ensures c.part_of-part.ensures.is refl c.overlay_code_gain.ensures c.weights_of-weights.ensures (c.in-Ok.ensures.items ∙ ap (λ (z : ℤ). c.args.vars.now.items ++ (record { name = c.overlay_code-item.result.name; gain = z; weights = c.weights_of-weights.result }) ∷ []) (to_z-of_z w128 c.overlay_code_gain.result fits))

@@ -1,5 +1,5 @@
 use Rattle.std.proofs.Common.{◌≡◌, ◌++◌, map}
-use Rattle.placement_programme.specs.Plain.{plain_full_var}
+use Rattle.placement_candidates.specs.FullVars.{plain_full_var}
 use Rattle.placement_candidates.specs.OverlayCounted.{scene_in, on_var}
 use Rattle.placement_candidates.specs.Overlaid.{overlaid_pieces}
 use Rattle.placement_candidates.proofs.overlaid_vars.push_pieces_by.Given as goal

@@ -1,6 +1,6 @@
 use Rattle.std.proofs.Common.{◌≡◌, ◌∙◌, ◌+◌, ◌==◌, ◌∷◌, [], true, false, map, take, slice_index_or, arith}
 use Rattle.std.proofs.lemmas.Bool.Decides.{nat_tests}
-use Rattle.placement_programme.specs.Plain.{plain_full_var}
+use Rattle.placement_candidates.specs.FullVars.{plain_full_var}
 use Rattle.placement_programme.specs.Rows.{overlay_code}
 use Rattle.block_splitter.specs.declared.piece.Piece.{Piece}
 use Rattle.placement_candidates.specs.OverlayCounted.{scene_in, on_var}

@@ -1,5 +1,5 @@
 use Rattle.std.proofs.Common.{◌+◌, ◌∷◌, [], map, refl, add-one}
-use Rattle.placement_programme.specs.Plain.{plain_full_var}
+use Rattle.placement_candidates.specs.FullVars.{plain_full_var}
 use Rattle.placement_programme.specs.Rows.{static_data}
 use Rattle.cell_values.specs.Objects.{datum_of}
 use Rattle.placement_candidates.specs.OverlayCounted.{on_var}

@@ -1,5 +1,5 @@
 use Rattle.std.proofs.Common.{◌+◌, ◌∷◌, [], map, slice_index_or, take}
-use Rattle.placement_programme.specs.Plain.{plain_full_var}
+use Rattle.placement_candidates.specs.FullVars.{plain_full_var}
 use Rattle.placement_programme.specs.Rows.{static_code}
 use Rattle.block_splitter.specs.declared.piece.Piece.{Piece}
 use Rattle.placement_candidates.specs.OverlayCounted.{scene_in, on_var}

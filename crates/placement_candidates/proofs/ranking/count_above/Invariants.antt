@@ -1,6 +1,6 @@
 use Rattle.std.proofs.Common.{◌≡◌, ℕ, ◌≤◌, nat_lt, map}
 use Rattle.list_checks.specs.Sorted.{count_below}
-use Rattle.placement_programme.specs.Plain.{plain_full_var}
+use Rattle.placement_candidates.specs.FullVars.{plain_full_var}
 use Rattle.placement_candidates.specs.Selected.{worth_at}
 use Rattle.placement_candidates.proofs.ranking.count_above.Given as goal
 

@@ -1,6 +1,6 @@
 use Rattle.std.proofs.Common.{◌∙◌, map, length, sym, ap, subst}
 use Rattle.std.proofs.lemmas.List.{length-map}
-use Rattle.placement_programme.specs.Plain.{plain_full_var}
+use Rattle.placement_candidates.specs.FullVars.{plain_full_var}
 use Rattle.placement_candidates.specs.Ranking.{least_of, IsLeast}
 use Rattle.placement_candidates.proofs.RankLemmas.{is_least}
 use Rattle.placement_candidates.proofs.ranking.least_kept.Goals as goal

@@ -1,6 +1,6 @@
 use Rattle.std.proofs.Common.{◌≡◌, map}
 use Rattle.energy_model.specs.Copied.{values}
-use Rattle.placement_programme.specs.Plain.{plain_full_var}
+use Rattle.placement_candidates.specs.FullVars.{plain_full_var}
 use Rattle.placement_candidates.specs.Selected.{worth_at}
 use Rattle.placement_candidates.proofs.ranking.worths.Given as goal
 

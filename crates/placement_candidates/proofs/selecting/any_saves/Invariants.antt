@@ -1,6 +1,6 @@
 use Rattle.std.proofs.Common.{◌≡◌, map}
 use Rattle.list_checks.specs.Tests.{any_below}
-use Rattle.placement_programme.specs.Plain.{plain_full_var}
+use Rattle.placement_candidates.specs.FullVars.{plain_full_var}
 use Rattle.placement_candidates.specs.Selected.{var_in, saves_by_overlay}
 use Rattle.placement_candidates.proofs.selecting.any_saves.Given as goal
 

@@ -1,5 +1,6 @@
 use Rattle.std.proofs.Common.{◌≡◌, ℕ, ◌≤◌, List, map}
-use Rattle.placement_programme.specs.Plain.{PlainVar, plain_var, plain_full_var}
+use Rattle.placement_programme.specs.Plain.{PlainVar, plain_var}
+use Rattle.placement_candidates.specs.FullVars.{plain_full_var}
 use Rattle.placement_candidates.specs.Selected.{kept_below}
 use Rattle.placement_candidates.specs.Ranking.{ties_before}
 use Rattle.placement_candidates.proofs.selecting.kept_vars.Given as goal

@@ -1,6 +1,6 @@
 use Rattle.std.proofs.Common.{map}
 use Rattle.placement_programme.specs.Plain.{plain_var}
-use Rattle.placement_programme.specs.Views.{plain_full_side}
+use Rattle.placement_candidates.specs.FullViews.{plain_full_side}
 use Rattle.placement_candidates.proofs.SelectLemmas.{parts_within}
 use Rattle.placement_candidates.proofs.selecting.select_side.Goals as goal
 

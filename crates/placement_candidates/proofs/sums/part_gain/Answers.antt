@@ -1,6 +1,6 @@
 use Rattle.std.proofs.Common.{◌≡◌, true, false, option_map, ap, arith}
 use Rattle.std.proofs.lemmas.Bool.Decides.{nat_tests}
-use Rattle.placement_programme.specs.Views.{plain_full_side}
+use Rattle.placement_candidates.specs.FullViews.{plain_full_side}
 use Rattle.placement_candidates.specs.Parts.{plain_part}
 use Rattle.placement_candidates.proofs.SumLemmas.{off_var_there, on_var_there}
 use Rattle.placement_candidates.proofs.sums.part_gain.Goals as goal

@@ -1,6 +1,6 @@
 use Rattle.std.proofs.Common.{◌≡◌, ◌∙◌, ◌+◌, true, false, nat_lt, nat_le, length, List, Some, ap, sym, arith}
 use Rattle.std.proofs.lemmas.Bool.Decides.{nat_tests}
-use Rattle.placement_programme.specs.declared.variables.FullVar.{FullVar}
+use Rattle.placement_candidates.specs.declared.variables.FullVar.{FullVar}
 use Rattle.placement_programme.specs.Rows.{fixed_bytes}
 use Rattle.placement_programme.specs.Plain.{PlainFullSide}
 use Rattle.placement_candidates.specs.Overlaid.{overlay_candidates}

@@ -1,4 +1,4 @@
-use Rattle.placement_programme.specs.Views.{plain_full}
+use Rattle.placement_candidates.specs.FullViews.{plain_full}
 use Rattle.placement_candidates.proofs.OverlaySideLemmas.{can_overlay, whole_is}
 use Rattle.placement_candidates.proofs.whole_side.whole_full.Goals as goal
 

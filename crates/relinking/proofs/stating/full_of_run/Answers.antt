@@ -1,5 +1,5 @@
 use Rattle.std.proofs.Common.{List, sym, subst}
-use Rattle.placement_programme.specs.Views.{plain_full}
+use Rattle.placement_candidates.specs.FullViews.{plain_full}
 use Rattle.block_splitter.specs.declared.piece.Piece.{Piece}
 use Rattle.energy_model.specs.Scenes.{scene_of}
 use Rattle.placement_candidates.specs.Stated.{AreSomePieces}
