@@ -22,5 +22,6 @@ pub mod WholeChoices
 pub mod WholeLemmas
 pub mod SumLemmas
 pub mod MixLemmas
+pub mod OneMoreLemmas
 pub mod RunLemmas
 pub mod EnergyLemmas

@@ -112,7 +112,7 @@ few_of_part true p = few_of_option p.weight p.full.on
     few_of_option weight None = omega arith
     few_of_option weight (Some side) = omega arith
 
-few_sides : (on : Bool) (ps : List PlainPart) → length (sides_of on ps) ≤ length ps
+pub few_sides : (on : Bool) (ps : List PlainPart) → length (sides_of on ps) ≤ length ps
 few_sides on [] = omega arith
 few_sides on (p ∷ ps) =
     let rest = few_sides on ps in
@@ -156,7 +156,7 @@ module _ (on : Bool) (parts : List PlainPart) (like : PlainFullSide) (can : CanM
   abbrev vars : List PlainFullVar
   vars = mixed_vars sides like.vars (length like.vars)
 
-  few_all : All (IsFewSide (length like.vars)) sides
+  pub few_all : All (IsFewSide (length like.vars)) sides
   few_all =
       all_sides (IsFewSide (length like.vars)) on parts (λ k d below. few_sides_of on (slice_index_or parts k d) like (can.small k d below) (can.alike k d below))
 
@@ -204,7 +204,7 @@ module _ (on : Bool) (parts : List PlainPart) (like : PlainFullSide) (can : CanM
 -- ---- the sides of a mix, by those of the first part
 
 module _ (parts : List PlainPart) (first : PlainPart) (can : CanMix parts) (is_first : slice_index_or parts 0 first ≡ first) where
-  one_program : (k : ℕ) (d : PlainPart) → k < length parts → AreOfOneProgram (slice_index_or parts k d) first
+  pub one_program : (k : ℕ) (d : PlainPart) → k < length parts → AreOfOneProgram (slice_index_or parts k d) first
   one_program k d below =
       let some = can.some in
       subst (AreOfOneProgram (slice_index_or parts k d)) is_first (can.alike k d below 0 first (omega (arith, some)))

@@ -68,7 +68,7 @@ pub on_are : (ps : List PlainPart) → sides_of true ps ≡ on_sides ps
 on_are [] = refl
 on_are (p ∷ ps) = ap (λ (ss : List SidePart). on_part p.weight p.full.on ++ ss) (on_are ps)
 
-fixed_append : (ss ts : List SidePart) → mixed_fixed (ss ++ ts) ≡ mixed_fixed ss + mixed_fixed ts
+pub fixed_append : (ss ts : List SidePart) → mixed_fixed (ss ++ ts) ≡ mixed_fixed ss + mixed_fixed ts
 fixed_append [] ts = omega arith
 fixed_append (s ∷ ss) ts =
     let rest = fixed_append ss ts in
@@ -93,7 +93,7 @@ none_first z = omega (arith, ints)
 one_first : (a b c d : ℤ) → b ≡ c +ℤ d → a +ℤ b ≡ (a +ℤ c) +ℤ d
 one_first a b c d is = omega (arith, ints, is)
 
-gain_append : (k : ℕ) (ss ts : List SidePart) → mixed_gain (ss ++ ts) k ≡ mixed_gain ss k +ℤ mixed_gain ts k
+pub gain_append : (k : ℕ) (ss ts : List SidePart) → mixed_gain (ss ++ ts) k ≡ mixed_gain ss k +ℤ mixed_gain ts k
 gain_append k [] ts = none_first (mixed_gain ts k)
 gain_append k (s ∷ ss) ts =
     one_first (pos s.weight *ℤ (var_in s.side.vars k).gain) (mixed_gain (ss ++ ts) k) (mixed_gain ss k) (mixed_gain ts k) (gain_append k ss ts)
@@ -108,7 +108,7 @@ gain_by_parts on k (p ∷ ps) =
 
 -- ---- one part: its side without overlay, its side with it, or none
 
-one_fixed : (weight : ℕ) (side : PlainFullSide) → mixed_fixed (record { weight = weight; side = side } ∷ []) ≡ weight * side.fixed
+pub one_fixed : (weight : ℕ) (side : PlainFullSide) → mixed_fixed (record { weight = weight; side = side } ∷ []) ≡ weight * side.fixed
 one_fixed weight side =
     let sum = sum_by-cons (λ (x : SidePart). x.weight * x.side.fixed) (record { weight = weight; side = side }) [] in omega (arith, sum)
 

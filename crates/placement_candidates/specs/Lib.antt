@@ -16,5 +16,6 @@ pub mod OverlayRows
 pub mod Whole
 pub mod Parts
 pub mod Mixing
+pub mod OneMore
 pub mod Mixed
 pub mod MixLaws

@@ -7,7 +7,7 @@ use crate::full_sides::FullSide;
 use crate::part::Part;
 
 /// A part's energy with everything at home, by weight.
-fn part_base(part: &Part) -> u128
+pub(crate) fn part_base(part: &Part) -> u128
     requires most { (plain_part part.now).weight ≤ 1000 }
     requires base { (plain_part part.now).full.base < 2 ^ 90 }
     ensures sum { result ≡ (plain_part part.now).weight * (plain_part part.now).full.base }
@@ -31,7 +31,7 @@ pub(crate) fn mixed_base(parts: &[Part]) -> u128
 }
 
 /// A side's fixed cost, by weight.
-fn weighted_fixed(weight: u32, side: &FullSide) -> u128
+pub(crate) fn weighted_fixed(weight: u32, side: &FullSide) -> u128
     requires few { weight ≤ 1000 }
     requires small { IsSmallSide (plain_full_side side.now) }
     ensures sum { result ≡ weight * (plain_full_side side.now).fixed }
@@ -70,7 +70,7 @@ pub(crate) fn mixed_fixed(parts: &[Part], on: bool) -> u128
 }
 
 /// What variable `k` of a side saves, by weight.
-fn weighted_gain(weight: u32, side: &FullSide, k: usize) -> i128
+pub(crate) fn weighted_gain(weight: u32, side: &FullSide, k: usize) -> i128
     requires few { weight ≤ 1000 }
     requires small { IsSmallSide (plain_full_side side.now) }
     requires inside { k < length (plain_full_side side.now).vars }

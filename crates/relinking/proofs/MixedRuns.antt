@@ -1,7 +1,7 @@
 -- Runs on several inputs: what they state one by one, and the first that meets an address fault.
-use Rattle.std.proofs.Common.{◌≡◌, ◌∙◌, ℕ, ◌+◌, ◌<◌, ◌≤◌, List, [], ◌∷◌, ◌++◌, length, map, take, drop, slice_index_or, refl, sym, ap, subst, arith, Err}
+use Rattle.std.proofs.Common.{◌≡◌, ◌∙◌, ℕ, zero, suc, ◌+◌, ◌<◌, ◌≤◌, List, [], ◌∷◌, ◌++◌, length, map, take, drop, slice_index_or, refl, sym, ap, subst, arith, Err}
 use Rattle.std.specs.List.{All}
-use Rattle.std.proofs.lemmas.List.{map-append, take_more, take-append-drop, drop_more}
+use Rattle.std.proofs.lemmas.List.{length-map, length-take-le, map-append, take_more, take-append-drop, drop_more}
 use Rattle.std.proofs.lemmas.List.Elements.{All-nil, All-cons, All-head, All-tail}
 use Rattle.elf_reader.specs.File.{PlainView, plain_view}
 use Rattle.elf_reader.specs.declared.view.ElfView.{ElfView}
@@ -21,12 +21,13 @@ use Rattle.placement_candidates.specs.Stated.{AreSomePieces}
 use Rattle.placement_candidates.specs.Selected.{selected}
 use Rattle.placement_candidates.specs.Overlaid.{AreOverlaidObjects, overlay_layout}
 use Rattle.placement_candidates.specs.Parts.{PlainPart, IsMix, IsSmallPart, CanMix}
+use Rattle.placement_candidates.specs.OneMore.{CanAdd}
 use Rattle.placement_candidates.specs.Mixed.{WeightedRun, mixed_stated, EnergiesAreMixed}
 use Rattle.placement_candidates.specs.MixLaws.{IsOneOf, part_of_run}
 use Rattle.placement_candidates.proofs.RunLemmas.{runs_can_mix, mixed_of_the_runs}
 use Rattle.placement_candidates.proofs.EnergyLemmas.{energies_are_mixed}
 use Rattle.relinking.specs.Runs.{ReportsCounts}
-use Rattle.relinking.specs.MixOfRuns.{WeightedInput, plain_input, AreSomeInputs, AreRunsOn, IsPartOf, ArePartsOf, StatesTogether, FaultsFirst}
+use Rattle.relinking.specs.MixOfRuns.{WeightedInput, plain_input, AreSomeInputs, AreRunsOn, IsPartOf, ArePartsOf, AreMixed, StatesTogether, FaultsFirst}
 use Rattle.relinking.specs.declared.mixing.WeightedBytes.{WeightedBytes}
 use Rattle.relinking.proofs.Counting.{no_memory}
 
@@ -40,6 +41,34 @@ split_inputs : (inputs : List WeightedBytes) (k : ℕ) (d : WeightedBytes) → k
 split_inputs inputs k d below =
     ap (λ (is : List WeightedBytes). map plain_input is) (sym (take-append-drop k inputs) ∙ ap (λ (is : List WeightedBytes). take k inputs ++ is) (drop_more inputs k d below))
     ∙ map-append plain_input (take k inputs) (slice_index_or inputs k d ∷ drop (k + 1) inputs)
+
+-- the first of some inputs are some
+some_taken : (inputs : List WeightedBytes) (k : ℕ) → k < length inputs → AreSomeInputs (map plain_input inputs) → AreSomeInputs (map plain_input (take (k + 1) inputs))
+some_taken inputs k below some =
+    let taken = length-map (take (k + 1) inputs) plain_input in
+    let count = length-take-le (k + 1) inputs (omega (arith, below)) in
+    let whole = length-map inputs plain_input in
+    let few = some.few in
+    record {
+      some = omega (arith, taken, count);
+      few = omega (arith, taken, count, below, whole, few);
+      weights = λ j d inside.
+          subst (λ (i : WeightedInput). (1 ≤ i.weight) × (i.weight ≤ 1000)) (sym (same_place inputs (k + 1) j d (omega (arith, taken, count, inside))))
+          (some.weights j d (omega (arith, taken, count, inside, whole, below)));
+    }
+  where
+    same_place : (is : List WeightedBytes) (n j : ℕ) (d : WeightedInput) → j < n → slice_index_or (map plain_input (take n is)) j d ≡ slice_index_or (map plain_input is) j d
+    same_place [] zero j d less = absurd (omega (arith, less))
+    same_place [] (suc n) j d less = refl
+    same_place (i ∷ is) zero j d less = absurd (omega (arith, less))
+    same_place (i ∷ is) (suc n) zero d less = refl
+    same_place (i ∷ is) (suc n) (suc j) d less = same_place is n j d (omega (arith, less))
+
+pub any_input : (inputs : List WeightedBytes) → AreSomeInputs (map plain_input inputs) → 0 < length inputs
+any_input inputs are =
+    let some = are.some in
+    let count = length-map inputs plain_input in
+    omega (arith, some, count)
 
 -- ---- parts
 
@@ -137,6 +166,48 @@ module _ (view : ElfView) (board : Board) (g : Graph) (c : Code) (t : RegionTabl
       subst (λ (xs : List PlainPart). CanMix xs) (sym same)
       (runs_can_mix w l objects pieces runs (omega (arith, count, some)) (omega (arith, count, few))
       (subst (λ (xs : List PlainPart). All IsSmallPart xs) same (parts_small is ps are inputs.weights)))
+
+  parts_count : (is : List WeightedInput) (ps : List PlainPart) → Parts is ps → length ps ≡ length is
+  parts_count [] [] are = refl
+  parts_count [] (p ∷ ps) are = absurd are
+  parts_count (i ∷ is) [] are = absurd are
+  parts_count (i ∷ is) (p ∷ ps) are = let rest = parts_count is ps are.1 in omega (arith, rest)
+
+  abbrev Mixed : List WeightedInput → PlainFull → Type 0
+  Mixed is f = AreMixed view board g c t pieces objects is f
+
+  -- the first input alone
+  pub mixed_first : (inputs : List WeightedBytes) (d : WeightedBytes) (p : PlainPart) (f : PlainFull) → 0 < length inputs → Part (plain_input (slice_index_or inputs 0 d)) p → IsMix (p ∷ []) f → Mixed (map plain_input (take 1 inputs)) f
+  mixed_first inputs d p f below here mix =
+      record { parts = p ∷ []; are = part_more inputs 0 d [] (p ∷ []) p below tt here refl; mix = mix }
+
+  pub first_can_mix : (inputs : List WeightedBytes) (d : WeightedBytes) (p : PlainPart) → 0 < length inputs → AreSomeInputs (map plain_input inputs) → Part (plain_input (slice_index_or inputs 0 d)) p → CanMix (p ∷ [])
+  first_can_mix inputs d p below some here =
+      can_mix (map plain_input (take 1 inputs)) (p ∷ []) (some_taken inputs 0 below some) (part_more inputs 0 d [] (p ∷ []) p below tt here refl)
+
+  -- one input more
+  parts_some : (inputs : List WeightedBytes) (k : ℕ) (f : PlainFull) → 1 ≤ k → k < length inputs → (m : Mixed (map plain_input (take k inputs)) f) → 1 ≤ length m.parts
+  parts_some inputs k f some below m =
+      let count = parts_count (map plain_input (take k inputs)) m.parts m.are in
+      let taken = length-map (take k inputs) plain_input in
+      let few = length-take-le k inputs (omega (arith, below)) in
+      omega (arith, some, count, taken, few)
+
+  can_more : (inputs : List WeightedBytes) (k : ℕ) (d : WeightedBytes) (f : PlainFull) (p : PlainPart) → k < length inputs → AreSomeInputs (map plain_input inputs) → (m : Mixed (map plain_input (take k inputs)) f) → Part (plain_input (slice_index_or inputs k d)) p → CanMix (m.parts ++ p ∷ [])
+  can_more inputs k d f p below inputs_are m here =
+      can_mix (map plain_input (take (k + 1) inputs)) (m.parts ++ p ∷ []) (some_taken inputs k below inputs_are) (part_more inputs k d m.parts (m.parts ++ p ∷ []) p below m.are here refl)
+
+  pub can_add : (inputs : List WeightedBytes) (k : ℕ) (d : WeightedBytes) (f : PlainFull) (p : PlainPart) → 1 ≤ k → k < length inputs → AreSomeInputs (map plain_input inputs) → Mixed (map plain_input (take k inputs)) f → Part (plain_input (slice_index_or inputs k d)) p → CanAdd f p
+  can_add inputs k d f p some below inputs_are m here =
+      record { parts = m.parts; some = parts_some inputs k f some below m; is = m.mix; can = can_more inputs k d f p below inputs_are m here }
+
+  pub mixed_more : (inputs : List WeightedBytes) (k : ℕ) (d : WeightedBytes) (f new : PlainFull) (p : PlainPart) → 1 ≤ k → k < length inputs → AreSomeInputs (map plain_input inputs) → Mixed (map plain_input (take k inputs)) f → Part (plain_input (slice_index_or inputs k d)) p → ((ps : List PlainPart) → 1 ≤ length ps → IsMix ps f → CanMix (ps ++ p ∷ []) → IsMix (ps ++ p ∷ []) new) → Mixed (map plain_input (take (k + 1) inputs)) new
+  mixed_more inputs k d f new p some below inputs_are m here more =
+      record {
+        parts = m.parts ++ p ∷ [];
+        are = part_more inputs k d m.parts (m.parts ++ p ∷ []) p below m.are here refl;
+        mix = more m.parts (parts_some inputs k f some below m) m.mix (can_more inputs k d f p below inputs_are m here);
+      }
 
   -- their mix is what they state together
   pub together : (is : List WeightedInput) (ps : List PlainPart) (f : PlainFull) (p : PlainProgramme) → AreSomeInputs is → Parts is ps → AreSomePieces c g pieces → AreOverlaidObjects c g t objects → IsMix ps f → p ≡ selected f → StatesTogether (plain_view view) board g c t pieces is p

@@ -8,12 +8,12 @@ use Rattle.object_graph.specs.declared.parts.Graph.{Graph}
 use Rattle.code_blocks.specs.declared.parts.Code.{Code}
 use Rattle.block_splitter.specs.declared.piece.Piece.{Piece}
 use Rattle.region_former.specs.declared.table.RegionTable.{RegionTable}
-use Rattle.placement_programme.specs.Plain.{PlainProgramme}
+use Rattle.placement_programme.specs.Plain.{PlainFull, PlainProgramme}
 use Rattle.profile_runner.specs.declared.counts.Profile.{Profile}
 use Rattle.profile_runner.specs.declared.fault.ProfileFault.{ProfileFault}
 use Rattle.energy_model.specs.Scenes.{scene_of}
 use Rattle.placement_candidates.specs.Overlaid.{AreOverlaidObjects, overlay_layout}
-use Rattle.placement_candidates.specs.Parts.{PlainPart}
+use Rattle.placement_candidates.specs.Parts.{PlainPart, IsMix}
 use Rattle.placement_candidates.specs.Mixed.{WeightedRun, mixed_stated, EnergiesAreMixed}
 use Rattle.relinking.specs.Runs.{ReportsCounts}
 use Rattle.relinking.specs.ProgrammeOfRun.{RunsOn, StatesFull}
@@ -54,6 +54,12 @@ ArePartsOf view board g c t pieces objects [] (p ∷ ps) = ⊥
 ArePartsOf view board g c t pieces objects (i ∷ is) [] = ⊥
 ArePartsOf view board g c t pieces objects (i ∷ is) (p ∷ ps) =
     IsPartOf view board g c t pieces objects i p × ArePartsOf view board g c t pieces objects is ps
+
+-- what the runs on these inputs state, mixed
+pub record AreMixed (view : ElfView) (board : Board) (g : Graph) (c : Code) (t : RegionTable) (pieces : List Piece) (objects : List ℕ) (inputs : List WeightedInput) (f : PlainFull) : Type 0 where
+  pub parts : List PlainPart
+  pub are : ArePartsOf view board g c t pieces objects inputs parts
+  pub mix : IsMix parts f
 
 -- The runs on these inputs state this programme together, for the objects that may move, of which these may be overlaid, and
 -- for these pieces of code.

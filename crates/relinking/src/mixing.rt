@@ -1,19 +1,20 @@
 // Several runs of one program, each with a weight.
-ghost use Rattle.std.specs.Prelude.{◌≡◌, ◌++◌, ◌∷◌, [], ℕ, List, map, Err, IfOk, IfErr, OnOk};
+ghost use Rattle.std.specs.Prelude.{ℕ, List, map, take, Err, IfOk, IfErr};
 ghost use Rattle.elf_reader.specs.File.{plain_view};
-ghost use Rattle.placement_programme.specs.{Plain.{PlainFull}, Views.{plain_programme}};
-ghost use Rattle.placement_candidates.specs.{Selected.{selected}, Overlaid.{AreOverlaidObjects}, Parts.{plain_part, IsMix, CanMix}};
+ghost use Rattle.placement_programme.specs.Views.{plain_programme};
+ghost use Rattle.placement_candidates.specs.{FullViews.{plain_full}, Overlaid.{AreOverlaidObjects}, Parts.{plain_part}};
 ghost use Rattle.relink_core.specs.Choices.{IsAnalysisOf};
-ghost use Rattle.relinking.specs.{Runs.{ReportsCounts}, MixOfRuns.{plain_input, AreSomeInputs, IsPartOf, ArePartsOf, StatesTogether, FaultsFirst}};
+ghost use Rattle.relinking.specs.{Runs.{ReportsCounts}, MixOfRuns.{plain_input, AreSomeInputs, IsPartOf, AreMixed, StatesTogether, FaultsFirst}};
 
 use crate::stating::{full_of_run, objects_of};
 use board_config::Board;
-use placement_candidates::{Part, mix, select};
+use placement_candidates::{Full, Part, mix, mix_more, select};
 use placement_programme::Programme;
 use profile_runner::ProfileFault;
 use relink_core::Analysis;
 use shelf_io::Progress;
-use std::alloc::{AllocError, Global};
+use std::alloc::Global;
+use std::slice;
 
 /// An input of a program, and how much its run counts.
 #[derive(Drop)]
@@ -46,53 +47,60 @@ fn part_of_run(
     }
 }
 
-fn push_part(parts: &mut Vec<Part>, part: Part) -> Result<(), AllocError>
-    ensures { OnOk result (map plain_part parts.new.items ≡ map plain_part parts.old.items ++ plain_part part ∷ []) }
-{
-    match parts.push(part) {
-        Ok(()) => Ok(()),
-        Err(error) => Err(error.into()),
-    }
-}
-
-/// What the runs on inputs state, one run after the other, so that no two are held at a time.
-///
-/// The error is the first address fault. `Memory` comes only where no memory was left.
-fn parts_of_runs(
+/// What the run on the first input states, by its weight. The error is that of `part_of_run`.
+fn mix_of_first(
     alloc: Global,
     analysis: &Analysis<'_>,
     board: &Board,
     inputs: &[WeightedBytes<'_>],
     objects: &[u32],
     progress: &dyn Progress,
-) -> Result<Vec<Part>, ProfileFault>
+) -> Result<Full, ProfileFault>
     requires analysis { (file : List ℕ) × IsAnalysisOf file board.now analysis.now }
     requires overlaid { AreOverlaidObjects analysis.now.code analysis.now.graph analysis.now.regions objects.now }
     requires inputs { AreSomeInputs (map plain_input inputs.now) }
-    ensures ok { IfOk result (λ parts. ArePartsOf analysis.now.view board.now analysis.now.graph analysis.now.code analysis.now.regions analysis.now.pieces.items objects.now (map plain_input inputs.now) (map plain_part parts.items)) }
+    ensures ok { IfOk result (λ full. AreMixed analysis.now.view board.now analysis.now.graph analysis.now.code analysis.now.regions analysis.now.pieces.items objects.now (map plain_input (take 1 inputs.now)) (plain_full full)) }
     ensures err { IfErr result (FaultsFirst (plain_view analysis.now.view) board.now analysis.now.graph analysis.now.code analysis.now.regions (map plain_input inputs.now)) }
 {
-    let mut parts = Vec::new(alloc);
-    for k in 0..inputs.len() {
+    let part = match part_of_run(alloc, analysis, board, &inputs[0], objects, progress) {
+        Ok(part) => part,
+        Err(fault) => return Err(fault),
+    };
+    match mix(alloc, slice::from_ref(&part)) {
+        Ok(full) => Ok(full),
+        Err(error) => Err(ProfileFault::from(error)),
+    }
+}
+
+/// What the runs on inputs state together, one run after the other, so that no two are held at a time.
+///
+/// The error is the first address fault. `Memory` comes only where no memory was left.
+fn mix_of_runs(
+    alloc: Global,
+    analysis: &Analysis<'_>,
+    board: &Board,
+    inputs: &[WeightedBytes<'_>],
+    objects: &[u32],
+    progress: &dyn Progress,
+) -> Result<Full, ProfileFault>
+    requires analysis { (file : List ℕ) × IsAnalysisOf file board.now analysis.now }
+    requires overlaid { AreOverlaidObjects analysis.now.code analysis.now.graph analysis.now.regions objects.now }
+    requires inputs { AreSomeInputs (map plain_input inputs.now) }
+    ensures ok { IfOk result (λ full. AreMixed analysis.now.view board.now analysis.now.graph analysis.now.code analysis.now.regions analysis.now.pieces.items objects.now (map plain_input inputs.now) (plain_full full)) }
+    ensures err { IfErr result (FaultsFirst (plain_view analysis.now.view) board.now analysis.now.graph analysis.now.code analysis.now.regions (map plain_input inputs.now)) }
+{
+    let mut total = match mix_of_first(alloc, analysis, board, inputs, objects, progress) {
+        Ok(total) => total,
+        Err(fault) => return Err(fault),
+    };
+    for k in 1..inputs.len() {
         let part = match part_of_run(alloc, analysis, board, &inputs[k], objects, progress) {
             Ok(part) => part,
             Err(fault) => return Err(fault),
         };
-        push_part(&mut parts, part)?;
+        total = mix_more(alloc, &total, &part)?;
     }
-    Ok(parts)
-}
-
-/// The programme of a mix of runs. It fails only where no memory was left.
-fn programme_of_parts(alloc: Global, parts: &[Part]) -> Result<Programme, AllocError>
-    requires { CanMix (map plain_part parts.now) }
-    ensures { IfOk result (λ p. (f : PlainFull) × (IsMix (map plain_part parts.now) f × (plain_programme p ≡ selected f))) }
-{
-    let full = mix(alloc, parts)?;
-    match select(alloc, &full) {
-        Ok(programme) => Ok(programme),
-        Err(error) => Err(error),
-    }
+    Ok(total)
 }
 
 /// The programme of a placement that the runs of an analysed program on 1 to 16 inputs state together, each for the board's
@@ -112,8 +120,8 @@ pub fn programme_of_runs(
     ensures err { IfErr result (FaultsFirst (plain_view analysis.now.view) board.now analysis.now.graph analysis.now.code analysis.now.regions (map plain_input inputs.now)) }
 {
     let objects = objects_of(alloc, analysis)?;
-    let parts = parts_of_runs(alloc, analysis, board, inputs, &objects, progress)?;
-    match programme_of_parts(alloc, &parts) {
+    let full = mix_of_runs(alloc, analysis, board, inputs, &objects, progress)?;
+    match select(alloc, &full) {
         Ok(programme) => Ok(programme),
         Err(error) => Err(ProfileFault::from(error)),
     }
