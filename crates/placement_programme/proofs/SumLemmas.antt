@@ -1,12 +1,11 @@
 -- Sums over taken variables, against the sums over all.
-use Rattle.std.proofs.Common.{◌≡◌, ◌∙◌, inl, inr, ℕ, zero, suc, ◌+◌, ◌<◌, ◌≤◌, List, [], ◌∷◌, map, take, length, get_or, unsigned_abs, sym, ap, refl, arith}
+use Rattle.std.proofs.Common.{◌≡◌, ◌∙◌, inl, inr, ℕ, zero, suc, ◌+◌, ◌<◌, ◌≤◌, List, [], ◌∷◌, map, take, length, get_or, sym, ap, refl, arith}
 use Rattle.std.specs.List.{sum_by}
 use Rattle.std.proofs.lemmas.Bool.{cases_lt}
 use Rattle.std.proofs.lemmas.List.{get_or-map, length-map}
 use Rattle.std.proofs.lemmas.List.Sums.{sum_by-cons, sum_by_more, sum_by_more_le}
 use Rattle.placement_programme.specs.declared.variables.Var.{Var}
-use Rattle.placement_programme.specs.declared.variables.FullVar.{FullVar}
-use Rattle.placement_programme.specs.Plain.{PlainVar, PlainFullVar, plain_var, plain_full_var}
+use Rattle.placement_programme.specs.Plain.{PlainVar, plain_var}
 use Rattle.placement_programme.specs.Bounds.{AscendWithin}
 use Rattle.placement_programme.specs.Programme.{gain_at}
 use Rattle.placement_programme.specs.Sums.{sum_below}
@@ -59,13 +58,3 @@ pub gain_more_le : (vs : List Var) (i : ℕ) (d : Var) → i < length vs → sum
 gain_more_le vs i d inside =
     let more = sum_by_more_le (λ (v : PlainVar). v.gain) (map plain_var vs) i (plain_var d) (rw (length-map vs plain_var) inside) in
     rw (get_or-map plain_var vs i d (plain_var d) inside) at more
-
-pub full_gain_more : (vs : List FullVar) (i : ℕ) (d : FullVar) → i < length vs → sum_by (λ v. unsigned_abs v.gain) (take (i + 1) (map plain_full_var vs)) ≡ sum_by (λ v. unsigned_abs v.gain) (take i (map plain_full_var vs)) + unsigned_abs (get_or vs i d).gain
-full_gain_more vs i d inside =
-    let more = sum_by_more (λ (v : PlainFullVar). unsigned_abs v.gain) (map plain_full_var vs) i (plain_full_var d) (rw (length-map vs plain_full_var) inside) in
-    rw (get_or-map plain_full_var vs i d (plain_full_var d) inside) at more
-
-pub full_gain_more_le : (vs : List FullVar) (i : ℕ) (d : FullVar) → i < length vs → sum_by (λ v. unsigned_abs v.gain) (take i (map plain_full_var vs)) + unsigned_abs (get_or vs i d).gain ≤ sum_by (λ v. unsigned_abs v.gain) (map plain_full_var vs)
-full_gain_more_le vs i d inside =
-    let more = sum_by_more_le (λ (v : PlainFullVar). unsigned_abs v.gain) (map plain_full_var vs) i (plain_full_var d) (rw (length-map vs plain_full_var) inside) in
-    rw (get_or-map plain_full_var vs i d (plain_full_var d) inside) at more

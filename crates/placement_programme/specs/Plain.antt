@@ -2,7 +2,6 @@
 use Rattle.std.specs.Prelude.{ℕ, ℤ, Bool, List, Option}
 use Rattle.placement_programme.specs.declared.variables.VarName.{VarName}
 use Rattle.placement_programme.specs.declared.variables.Var.{Var}
-use Rattle.placement_programme.specs.declared.variables.FullVar.{FullVar}
 
 -- a variable: its gain, and its weights, each a row and a value
 pub record PlainVar : Type 0 where
@@ -45,6 +44,3 @@ pub record PlainFull : Type 0 where
 
 abbrev pub plain_var : Var → PlainVar
 plain_var v = record { name = v.name; gain = v.gain; weights = v.weights.items }
-
-abbrev pub plain_full_var : FullVar → PlainFullVar
-plain_full_var v = record { name = v.name; gain = v.gain; weights = v.weights.items }

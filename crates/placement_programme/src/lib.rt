@@ -6,7 +6,6 @@
 
 mod choices;
 mod fitting;
-mod full_sides;
 mod gains;
 mod laws;
 mod limits;
@@ -16,7 +15,6 @@ mod variables;
 
 pub use choices::Choice;
 pub use fitting::{feasible, fits, weight_of};
-pub use full_sides::{Full, FullSide};
 pub use gains::{energy, gain_of, gain_of_side};
 pub use laws::{
     example_rows, example_weights, fewer_fit, more_load, nothing_fits, nothing_is_feasible,
@@ -24,4 +22,4 @@ pub use laws::{
 };
 pub use rows::{rows_ascend, value_in};
 pub use sides::{Programme, Side};
-pub use variables::{FullVar, Var, VarName};
+pub use variables::{Var, VarName};

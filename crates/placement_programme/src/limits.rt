@@ -1,9 +1,9 @@
-ghost use Rattle.std.specs.Prelude.{◌≡◌, ℕ, ◌^◌, ◌<◌, ◌≤◌, ◌↔◌, IsTrue, map, length, unsigned_abs};
+ghost use Rattle.std.specs.Prelude.{◌≡◌, ℕ, ◌^◌, ◌<◌, ◌≤◌, ◌↔◌, IsTrue, map, length};
 ghost use Rattle.std.specs.List.{All, sum_by};
-ghost use Rattle.placement_programme.specs.{Plain.{plain_var, plain_full_var}, Bounds.{AscendWithin, AreWeights, IsWithinBounds, IsWithinFullBounds, RowsWithin, row_of, value_of}};
+ghost use Rattle.placement_programme.specs.{Plain.{plain_var}, Bounds.{AscendWithin, AreWeights, IsWithinBounds, RowsWithin, row_of, value_of}};
 
 use crate::rows::rows_ascend;
-use crate::variables::{FullVar, Var};
+use crate::variables::Var;
 
 /// Energies and sums of gains stay below this.
 const ENERGY_LIMIT: u128 = 1 << 104;
@@ -50,13 +50,6 @@ fn all_weigh(vars: &[Var], count: usize) -> bool
     vars.iter().all(|var| are_weights(&var.weights, count))
 }
 
-/// Whether the weights of each candidate are weights in `count` rows.
-fn all_full_weigh(vars: &[FullVar], count: usize) -> bool
-    ensures { IsTrue result ↔ All (λ v. AreWeights count v.weights.items) vars.now }
-{
-    vars.iter().all(|var| are_weights(&var.weights, count))
-}
-
 /// Whether the weights of each variable, as a plain one, are weights in `count` rows.
 fn weights_fit(vars: &[Var], count: usize) -> bool
     ensures { IsTrue result ↔ All (λ v. AreWeights count v.weights) (map plain_var vars.now) }
@@ -84,34 +77,4 @@ pub(crate) fn is_within_bounds(fixed: u128, rows: &[u64], vars: &[Var]) -> bool
 {
     let few = fixed < ENERGY_LIMIT && vars.len() <= MOST_VARS && rows.len() < ROW_LIMIT;
     few && gains_fit(vars) && capacities_fit(rows) && weights_fit(vars, rows.len())
-}
-
-/// Whether the weights of each candidate, as a plain one, are weights in `count` rows.
-fn full_weights_fit(vars: &[FullVar], count: usize) -> bool
-    ensures { IsTrue result ↔ All (λ v. AreWeights count v.weights) (map plain_full_var vars.now) }
-{
-    all_full_weigh(vars, count)
-}
-
-/// Whether the gains without their signs sum up to less than the limit.
-fn full_gains_fit(vars: &[FullVar]) -> bool
-    ensures { IsTrue result ↔ (sum_by (λ v. unsigned_abs v.gain) (map plain_full_var vars.now) < 2 ^ 104) }
-{
-    let mut left = ENERGY_LIMIT - 1;
-    for var in vars {
-        let gain = var.gain.unsigned_abs();
-        if gain > left {
-            return false;
-        }
-        left -= gain;
-    }
-    true
-}
-
-/// Whether a side of these parts with all its candidates is within the bounds.
-pub(crate) fn is_within_full_bounds(fixed: u128, rows: &[u64], vars: &[FullVar]) -> bool
-    ensures { IsTrue result ↔ IsWithinFullBounds record { fixed = fixed; rows = rows.now; vars = map plain_full_var vars.now } }
-{
-    let few = fixed < ENERGY_LIMIT && rows.len() < ROW_LIMIT;
-    few && full_gains_fit(vars) && capacities_fit(rows) && full_weights_fit(vars, rows.len())
 }

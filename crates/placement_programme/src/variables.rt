@@ -25,13 +25,3 @@ pub struct Var {
     /// The rows in which it weighs something, ascending, and its weight in each.
     pub weights: Vec<(u32, u64)>,
 }
-
-/// A candidate with its gain, which may be 0 or below.
-#[derive(Drop)]
-pub struct FullVar {
-    pub name: VarName,
-    /// The energy that it saves, in the units of the board's prices.
-    pub gain: i128,
-    /// The rows in which it weighs something, ascending, and its weight in each.
-    pub weights: Vec<(u32, u64)>,
-}

@@ -32,12 +32,12 @@ returns-clause-exact c =
     let free : (k : ℕ) → k < length s.vars → fixing_of marks k ≡ Free = λ k below. ap (λ ms. fixing_of ms k) marks_are ∙ free_at s k below in
     record {
       tallies = record {
-            marked = omega (arith, long);
-            room = ap length loads_are ∙ (loads_room ∙ of_loads);
-            loads = λ row. ap (λ l. slice_index l row) loads_are ∙ (c.unload.ensures.values row ∙ sym (nothing_fixed (weight_at s.vars row) (length s.vars) marks free));
-            gains = sym (nothing_fixed (gain_at s.vars) (length s.vars) marks free);
-            bound = subst (λ ms. c.open_gains-self.result ≡ sum_below (length s.vars) (kept_at s ms 1 [])) c.deref.ensures.value c.open_gains-self.ensures;
-            free_count = subst (λ ms. c.count_free-self.result ≡ free_of s ms) c.deref-2.ensures.value c.count_free-self.ensures;
-          };
+        marked = omega (arith, long);
+        room = ap length loads_are ∙ (loads_room ∙ of_loads);
+        loads = λ row. ap (λ l. slice_index l row) loads_are ∙ (c.unload.ensures.values row ∙ sym (nothing_fixed (weight_at s.vars row) (length s.vars) marks free));
+        gains = sym (nothing_fixed (gain_at s.vars) (length s.vars) marks free);
+        bound = subst (λ ms. c.open_gains-self.result ≡ sum_below (length s.vars) (kept_at s ms 1 [])) c.deref.ensures.value c.open_gains-self.ensures;
+        free_count = subst (λ ms. c.count_free-self.result ≡ free_of s ms) c.deref-2.ensures.value c.count_free-self.ensures;
+      };
       long = long;
     }
