@@ -1,8 +1,8 @@
 -- The table of decoded instructions through stores and steps.
-use Rattle.std.proofs.Common.{◌≡◌, ◌≢◌, ℕ, ◌+◌, ◌*◌, ◌/◌, ◌%◌, ◌<◌, List, length, slice_index_or, slice_set, arith, get_or-set_other, length-set, ap, subst, sym, refl, ◌==◌, inl, inr}
+use Rattle.std.proofs.Common.{◌≡◌, ◌≢◌, ℕ, ◌+◌, ◌*◌, ◌/◌, ◌%◌, ◌<◌, List, length, slice_index_or, slice_set, arith, get_or-set_other, length-set, ap, ◌∙◌, subst, sym, refl, ◌==◌, inl, inr}
 use Rattle.std.proofs.lemmas.Bool.{cases_eq, cond_both}
 use Rattle.std.proofs.lemmas.Grind.{get_or-set_at}
-use Rattle.std.specs.Prelude.{true, false, Option, None, IsTrue}
+use Rattle.std.specs.Prelude.{Bool, true, false, Option, None, IsTrue}
 use Rattle.std.specs.Bool.{MatchBool}
 use Rattle.std.proofs.lemmas.Bool.Decides.{nat_tests}
 use Rattle.rv32im.specs.Words.{plus}
@@ -21,7 +21,8 @@ use Rattle.flat_machine.specs.Mapping.{can_access, can_move}
 use Rattle.flat_machine.specs.State.{State, trap}
 use Rattle.flat_machine.specs.Calls.{a1, a2, a7, answered, exited, written, read, call}
 use Rattle.flat_machine.specs.Step.{may_access, performed, accessed, event_of, ReadsNothing, Performs, StepAt, Step}
-use Rattle.flat_machine.specs.Known.{IsKnown, HoldsIn, SlotHolds, AreKnown, slot_of, vacant, TellsStep}
+use Rattle.flat_machine.specs.Ops.{instr_of}
+use Rattle.flat_machine.specs.Known.{IsKnown, HoldsIn, SlotHolds, AreKnown, slot_of, vacant, TellsStep, TakesStep}
 use Rattle.flat_machine.proofs.Runs.{performs_meaning}
 use Rattle.flat_machine.proofs.LineWords.{word_kept}
 
@@ -51,32 +52,33 @@ kept_word kind mem at value w small aligned within whole off =
 whole_word : (map : List Range) (at : ℕ) → IsTrue (can_access map at 4) → at % 4 ≡ 0
 whole_word map at can = grind (arith, nat_tests)
 
-slot_at : (k at' at : ℕ) → at' ≡ at / 4 * 4 → slot_of at' ≡ k → k ≡ slot_of at
-slot_at k at' at e place = omega arith
+slot_at : (slots k at' at : ℕ) → at' ≡ at / 4 * 4 → slot_of slots at' ≡ k → k ≡ slot_of slots at
+slot_at slots k at' at e place =
+    let same : at' / 4 ≡ at / 4 = omega arith in sym place ∙ ap (λ word. word % slots) same
 
-kept_slot : (map : List Range) (mem : Memory) (kind : StoreKind) (at value k : ℕ) (slot : Known) → at < 4294967296 → at % store_width kind ≡ 0 → slot.at ≢ at / 4 * 4 → SlotHolds map mem k slot → SlotHolds map (stored kind mem at value) k slot
-kept_slot map mem kind at value k slot small aligned off holds within =
-    let old : HoldsIn map mem k slot = holds within in
+kept_slot : (map : List Range) (mem : Memory) (kind : StoreKind) (at value slots k : ℕ) (slot : Known) → at < 4294967296 → at % store_width kind ≡ 0 → slot.at ≢ at / 4 * 4 → SlotHolds map mem slots k slot → SlotHolds map (stored kind mem at value) slots k slot
+kept_slot map mem kind at value slots k slot small aligned off holds within =
+    let old : HoldsIn map mem slots k slot = holds within in
     let whole : slot.at % 4 ≡ 0 = whole_word map slot.at old.known.fetches in
     let apart : slot.at / 4 ≢ at / 4 = omega arith in
     let word : word_at (stored kind mem at value) slot.at ≡ word_at mem slot.at = kept_word kind mem at value slot.at small aligned within whole apart in
     record {
       known = record {
         fetches = old.known.fetches;
-        means = subst (λ w. Means w slot.instr) (sym word) old.known.means;
+        means = subst (λ w. Means w (instr_of slot.op)) (sym word) old.known.means;
         in_range = old.known.in_range;
       };
       place = old.place;
     }
 
 -- a store leaves what is known, where the slot of its address keeps another
-pub known_after_store : (map : List Range) (mem : Memory) (known : List Known) (kind : StoreKind) (at value : ℕ) → at < 4294967296 → at % store_width kind ≡ 0 → AreKnown map mem known → ((j : ℕ) (d : Known) → j ≡ slot_of at → j < length known → (slice_index_or known j d).at ≢ at / 4 * 4) → AreKnown map (stored kind mem at value) known
+pub known_after_store : (map : List Range) (mem : Memory) (known : List Known) (kind : StoreKind) (at value : ℕ) → at < 4294967296 → at % store_width kind ≡ 0 → AreKnown map mem known → ((j : ℕ) (d : Known) → j ≡ slot_of (length known) at → j < length known → (slice_index_or known j d).at ≢ at / 4 * 4) → AreKnown map (stored kind mem at value) known
 unfolding AreKnown
 known_after_store map mem known kind at value small aligned all off k d inside within =
     let slot : Known = slice_index_or known k d in
-    let old : HoldsIn map mem k slot = all k d inside within in
-    let apart : slot.at ≢ at / 4 * 4 = λ e. off k d (slot_at k slot.at at e old.place) inside e in
-    kept_slot map mem kind at value k slot small aligned apart (all k d inside) within
+    let old : HoldsIn map mem (length known) k slot = all k d inside within in
+    let apart : slot.at ≢ at / 4 * 4 = λ e. off k d (slot_at (length known) k slot.at at e old.place) inside e in
+    kept_slot map mem kind at value (length known) k slot small aligned apart (all k d inside) within
 
 -- what is not kept is no more
 pub known_but_one : (map : List Range) (mem : Memory) (known : List Known) (s : ℕ) → AreKnown map mem known → AreKnown map mem (slice_set known s vacant)
@@ -90,7 +92,9 @@ known_but_one map mem known s all k d inside within =
           absurd (omega (arith, ap (λ (slot : Known). slot.at) gone))
       | inr other ↦
           let same : slice_index_or (slice_set known s vacant) k d ≡ slice_index_or known k d = get_or-set_other known s k vacant d other in
-          subst (λ (slot : Known). HoldsIn map mem k slot) (sym same) (all k d before (subst (λ (slot : Known). slot.at < 4294967296) same within))
+          let kept : HoldsIn map mem (length known) k (slice_index_or known k d) = all k d before (subst (λ (slot : Known). slot.at < 4294967296) same within) in
+          subst (λ slots. HoldsIn map mem slots k (slice_index_or (slice_set known s vacant) k d)) (sym len)
+          (subst (λ (slot : Known). HoldsIn map mem (length known) k slot) (sym same) kept)
     ]
 
 -- ---- steps
@@ -158,3 +162,7 @@ known_step s t i going known is =
       at_is = refl;
       access_is = refl;
     }
+
+pub known_or_not : (result : Bool) (s t : State) (i : Instr) → s.outcome ≡ GoesOn → IsKnown s.map s.hart.mem s.hart.pc i → MatchBool result (t ≡ performed s i) (t ≡ s) → MatchBool result (TakesStep s t) (t ≡ s)
+known_or_not true s t i going known is = (accessed s i, known_step s t i going known is)
+known_or_not false s t i going known is = is

@@ -15,5 +15,6 @@ pub mod Lines
 pub mod Start
 pub mod Sizes
 pub mod Machine
+pub mod Ops
 pub mod Known
 pub mod Reach

@@ -10,6 +10,8 @@ mod laws;
 mod loading;
 mod machine;
 mod mapping;
+mod naming;
+mod op;
 mod reach;
 
 pub use events::{FlatAccess, FlatEvent, FlatOutcome};
@@ -19,3 +21,4 @@ pub use laws::{
     performs_meaning, steps_compose, words_stay,
 };
 pub use machine::Flat;
+pub use op::Op;

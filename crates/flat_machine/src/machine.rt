@@ -2,6 +2,7 @@ ghost use Rattle.std.specs.Prelude.{◌≡◌, ◌≤◌, length, slice_index};
 ghost use Rattle.flat_machine.specs.{Mapping.{IsPart}, Reach.{IsMappedReach}};
 
 mod calling;
+mod far;
 mod knowing;
 mod near;
 mod performing;
@@ -128,8 +129,8 @@ impl<S: ByteStore> Flat<S> {
         if n == 0 {
             return Ok(self.outcome);
         }
-        let mut known = self.nothing_known()?;
-        self.run_knowing(n, &mut known)?;
+        let mut known = nothing_known(*self.output.allocator(), 65536)?;
+        self.run_knowing::<65536>(n, &mut known)?;
         Ok(self.outcome)
     }
 
@@ -139,7 +140,7 @@ impl<S: ByteStore> Flat<S> {
         ensures known { IfOk result (λ known. let s = state_of S.byte_at self.now in
             AreKnown s.map s.hart.mem known.items) }
     {
-        nothing_known(*self.output.allocator())
+        nothing_known(*self.output.allocator(), 4096)
     }
 
     /// The bytes that the program wrote so far.

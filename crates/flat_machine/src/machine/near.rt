@@ -1,259 +1,274 @@
-// Loads and stores of a run. Most are near the last one, which one test tells.
+// What most steps of a run do: instructions that the table of decoded instructions has, whose loads and stores are near
+// the last ones. They end no machine.
 use crate::accesses::{load_bytes, loaded_value, set_value, store_bytes};
 use crate::events::FlatAccess;
 use crate::known::Known;
-use crate::known_table::forget;
+use crate::known_table::{forget, is_known};
 use crate::machine::Flat;
-use crate::mapping::{has_access, is_near, range_around, reach_of};
+use crate::mapping::is_near;
+use crate::op::Op;
 use paged_store::ByteStore;
-use rv32im::{Instr, LoadKind, StoreKind};
-use std::alloc::AllocError;
+use rv32im::{BranchKind, ImmKind, LoadKind, RegKind, StoreKind, takes};
 
 impl<S: ByteStore> Flat<S> {
-    ghost use Rattle.std.specs.Prelude.{◌≡◌, ◌<◌, ◌≤◌, ℕ, List, length, IsTrue, OnOk, OnErr};
+    ghost use Rattle.std.specs.Prelude.{◌≡◌, ◌<◌, ◌≤◌, ℕ, length, IsTrue, MatchBool};
     ghost use Rattle.rv32im.specs.{declared.instructions.Instr.{Instr}, Table.{IsInRange}};
-    ghost use Rattle.flat_machine.specs.{declared.known.Known.{Known}, Mapping.{can_access}, Step.{performed, accessed}, Known.{AreKnown}, Machine.{state_of}};
+    ghost use Rattle.flat_machine.specs.{Mapping.{can_access}, Step.{performed, accessed}, Ops.{instr_of}, Known.{AreKnown}, Machine.{state_of}};
 
-    /// A load.
-    // The kinds are told apart here, so that each has its own width and its own way into the store.
+    /// Performs an instruction, unless it loads or stores elsewhere than near the last ones. Tells whether it did.
     #[inline(always)]
-    pub(super) fn load_near(&mut self, kind: LoadKind, rd: u8, rs1: u8, imm: i32)
-        requires rd { rd < 32 }
-        requires rs1 { rs1 < 32 }
-        ensures { state_of S.byte_at self.new ≡ performed (state_of S.byte_at self.old) (Instr.Load kind rd rs1 imm) }
+    pub(super) fn perform_near<const SLOTS: usize>(&mut self, op: Op, known: &mut [Known]) -> bool
+        requires some { 0 < SLOTS }
+        requires len { length known.old ≡ SLOTS }
+        requires known { let s = state_of S.byte_at self.old in AreKnown s.map s.hart.mem known.old }
+        requires in_range { IsInRange (instr_of op) }
+        ensures state { MatchBool result
+            (state_of S.byte_at self.new ≡ performed (state_of S.byte_at self.old) (instr_of op))
+            (state_of S.byte_at self.new ≡ state_of S.byte_at self.old) }
+        ensures outcome { (state_of S.byte_at self.new).outcome ≡ (state_of S.byte_at self.old).outcome }
+        ensures known { let t = state_of S.byte_at self.new in AreKnown t.map t.hart.mem known.new }
     {
-        match kind {
-            LoadKind::Lb => self.load_of(LoadKind::Lb, rd, rs1, imm),
-            LoadKind::Lh => self.load_of(LoadKind::Lh, rd, rs1, imm),
-            LoadKind::Lw => self.load_of(LoadKind::Lw, rd, rs1, imm),
-            LoadKind::Lbu => self.load_of(LoadKind::Lbu, rd, rs1, imm),
-            LoadKind::Lhu => self.load_of(LoadKind::Lhu, rd, rs1, imm),
+        match op {
+            Op::Lui { rd, imm } => self.lui(rd, imm),
+            Op::Auipc { rd, imm } => self.auipc(rd, imm),
+            Op::Jal { rd, off } => self.jal(rd, off),
+            Op::Jalr { rd, rs1, imm } => self.jalr(rd, rs1, imm),
+            Op::Beq { rs1, rs2, off } => self.branch_near::<SLOTS>(
+                BranchKind::Beq,
+                rs1,
+                rs2,
+                off,
+                known,
+            ),
+            Op::Bne { rs1, rs2, off } => self.branch_near::<SLOTS>(
+                BranchKind::Bne,
+                rs1,
+                rs2,
+                off,
+                known,
+            ),
+            Op::Blt { rs1, rs2, off } => self.branch_near::<SLOTS>(
+                BranchKind::Blt,
+                rs1,
+                rs2,
+                off,
+                known,
+            ),
+            Op::Bge { rs1, rs2, off } => self.branch_near::<SLOTS>(
+                BranchKind::Bge,
+                rs1,
+                rs2,
+                off,
+                known,
+            ),
+            Op::Bltu { rs1, rs2, off } => self.branch_near::<SLOTS>(
+                BranchKind::Bltu,
+                rs1,
+                rs2,
+                off,
+                known,
+            ),
+            Op::Bgeu { rs1, rs2, off } => self.branch_near::<SLOTS>(
+                BranchKind::Bgeu,
+                rs1,
+                rs2,
+                off,
+                known,
+            ),
+            Op::Lb { rd, rs1, imm } => return self.load_near(LoadKind::Lb, rd, rs1, imm),
+            Op::Lh { rd, rs1, imm } => return self.load_near(LoadKind::Lh, rd, rs1, imm),
+            Op::Lw { rd, rs1, imm } => return self.load_near(LoadKind::Lw, rd, rs1, imm),
+            Op::Lbu { rd, rs1, imm } => return self.load_near(LoadKind::Lbu, rd, rs1, imm),
+            Op::Lhu { rd, rs1, imm } => return self.load_near(LoadKind::Lhu, rd, rs1, imm),
+            Op::Sb { rs1, rs2, imm } => return self.store_near::<SLOTS>(
+                StoreKind::Sb,
+                rs1,
+                rs2,
+                imm,
+                known,
+            ),
+            Op::Sh { rs1, rs2, imm } => return self.store_near::<SLOTS>(
+                StoreKind::Sh,
+                rs1,
+                rs2,
+                imm,
+                known,
+            ),
+            Op::Sw { rs1, rs2, imm } => return self.store_near::<SLOTS>(
+                StoreKind::Sw,
+                rs1,
+                rs2,
+                imm,
+                known,
+            ),
+            Op::Addi { rd, rs1, imm } => self.op_imm(ImmKind::Addi, rd, rs1, imm),
+            Op::Slti { rd, rs1, imm } => self.op_imm(ImmKind::Slti, rd, rs1, imm),
+            Op::Sltiu { rd, rs1, imm } => self.op_imm(ImmKind::Sltiu, rd, rs1, imm),
+            Op::Xori { rd, rs1, imm } => self.op_imm(ImmKind::Xori, rd, rs1, imm),
+            Op::Ori { rd, rs1, imm } => self.op_imm(ImmKind::Ori, rd, rs1, imm),
+            Op::Andi { rd, rs1, imm } => self.op_imm(ImmKind::Andi, rd, rs1, imm),
+            Op::Slli { rd, rs1, imm } => self.op_imm(ImmKind::Slli, rd, rs1, imm),
+            Op::Srli { rd, rs1, imm } => self.op_imm(ImmKind::Srli, rd, rs1, imm),
+            Op::Srai { rd, rs1, imm } => self.op_imm(ImmKind::Srai, rd, rs1, imm),
+            Op::Add { rd, rs1, rs2 } => self.op_reg(RegKind::Add, rd, rs1, rs2),
+            Op::Sub { rd, rs1, rs2 } => self.op_reg(RegKind::Sub, rd, rs1, rs2),
+            Op::Sll { rd, rs1, rs2 } => self.op_reg(RegKind::Sll, rd, rs1, rs2),
+            Op::Slt { rd, rs1, rs2 } => self.op_reg(RegKind::Slt, rd, rs1, rs2),
+            Op::Sltu { rd, rs1, rs2 } => self.op_reg(RegKind::Sltu, rd, rs1, rs2),
+            Op::Xor { rd, rs1, rs2 } => self.op_reg(RegKind::Xor, rd, rs1, rs2),
+            Op::Srl { rd, rs1, rs2 } => self.op_reg(RegKind::Srl, rd, rs1, rs2),
+            Op::Sra { rd, rs1, rs2 } => self.op_reg(RegKind::Sra, rd, rs1, rs2),
+            Op::Or { rd, rs1, rs2 } => self.op_reg(RegKind::Or, rd, rs1, rs2),
+            Op::And { rd, rs1, rs2 } => self.op_reg(RegKind::And, rd, rs1, rs2),
+            Op::Mul { rd, rs1, rs2 } => self.op_reg(RegKind::Mul, rd, rs1, rs2),
+            Op::OpReg { kind, rd, rs1, rs2 } => self.op_reg(kind, rd, rs1, rs2),
         }
+        true
     }
 
-    /// A load of a kind that the caller names.
+    /// A conditional branch. Where it is taken, its target is looked up at once.
+    // So the host branches here, too, as it would not for a choice between two numbers: where it guesses
+    // wrong, it learns so as soon as it has compared, and not only at the jump to what comes next.
     #[inline(always)]
-    fn load_of(&mut self, kind: LoadKind, rd: u8, rs1: u8, imm: i32)
-        requires rd { rd < 32 }
+    fn branch_near<const SLOTS: usize>(
+        &mut self,
+        kind: BranchKind,
+        rs1: u8,
+        rs2: u8,
+        off: i32,
+        known: &mut [Known],
+    )
         requires rs1 { rs1 < 32 }
-        ensures { state_of S.byte_at self.new ≡ performed (state_of S.byte_at self.old) (Instr.Load kind rd rs1 imm) }
+        requires rs2 { rs2 < 32 }
+        requires some { 0 < SLOTS }
+        requires len { length known.old ≡ SLOTS }
+        requires known { let s = state_of S.byte_at self.old in AreKnown s.map s.hart.mem known.old }
+        ensures state { state_of S.byte_at self.new ≡ performed (state_of S.byte_at self.old) (Instr.Branch kind rs1 rs2 off) }
+        ensures outcome { (state_of S.byte_at self.new).outcome ≡ (state_of S.byte_at self.old).outcome }
+        ensures known { let t = state_of S.byte_at self.new in AreKnown t.map t.hart.mem known.new }
     {
-        let at = self.register(rs1).wrapping_add_signed(imm);
-        if self.is_near(at, load_bytes(kind)) {
-            let value = loaded_value(&self.store, kind, at);
-            self.write(rd, value);
+        if !takes(kind, self.register(rs1), self.register(rs2)) {
+            self.pc = self.pc.wrapping_add(4);
             return;
         }
-        self.load_far(kind, rd, rs1, imm);
+        let target = self.pc.wrapping_add_signed(off);
+        if !is_known::<SLOTS>(known, target) {
+            self.learn_at::<SLOTS>(target, known);
+        }
+        self.pc = target;
     }
 
-    /// A load from any address.
-    #[cold]
-    #[inline(never)]
-    fn load_far(&mut self, kind: LoadKind, rd: u8, rs1: u8, imm: i32)
+    /// A load near the last ones. Tells whether it is.
+    #[inline(always)]
+    fn load_near(&mut self, kind: LoadKind, rd: u8, rs1: u8, imm: i32) -> bool
         requires rd { rd < 32 }
         requires rs1 { rs1 < 32 }
-        ensures { state_of S.byte_at self.new ≡ performed (state_of S.byte_at self.old) (Instr.Load kind rd rs1 imm) }
+        ensures state { MatchBool result
+            (state_of S.byte_at self.new ≡ performed (state_of S.byte_at self.old) (Instr.Load kind rd rs1 imm))
+            (state_of S.byte_at self.new ≡ state_of S.byte_at self.old) }
+        ensures outcome { (state_of S.byte_at self.new).outcome ≡ (state_of S.byte_at self.old).outcome }
     {
         let at = self.register(rs1).wrapping_add_signed(imm);
-        let _ = self.load(kind, rd, rs1, imm);
-        self.go_near(at);
-    }
-
-    /// A store. The table forgets the instruction that it wrote over.
-    #[inline(always)]
-    pub(super) fn store_near(
-        &mut self,
-        kind: StoreKind,
-        rs1: u8,
-        rs2: u8,
-        imm: i32,
-        known: &mut [Known],
-    ) -> Result<(), AllocError>
-        requires rs1 { rs1 < 32 }
-        requires rs2 { rs2 < 32 }
-        requires len { length known.old ≡ 4096 }
-        requires known { let s = state_of S.byte_at self.old in AreKnown s.map s.hart.mem known.old }
-        ensures state { OnOk result (state_of S.byte_at self.new ≡ performed (state_of S.byte_at self.old) (Instr.Store kind rs1 rs2 imm)) }
-        ensures known { OnOk result (let t = state_of S.byte_at self.new in
-            AreKnown t.map t.hart.mem known.new) }
-        ensures err { OnErr result (state_of S.byte_at self.new ≡ state_of S.byte_at self.old) }
-    {
-        match kind {
-            StoreKind::Sb => self.store_of(StoreKind::Sb, rs1, rs2, imm, known),
-            StoreKind::Sh => self.store_of(StoreKind::Sh, rs1, rs2, imm, known),
-            StoreKind::Sw => self.store_of(StoreKind::Sw, rs1, rs2, imm, known),
+        if !self.is_near(at, load_bytes(kind)) {
+            return false;
         }
+        let value = loaded_value(&self.store, kind, at);
+        self.write(rd, value);
+        true
     }
 
-    /// A store of a kind that the caller names.
+    /// A store near the last ones, where no memory has to be made. Tells whether it is. The table forgets the instruction
+    /// that it wrote over.
     #[inline(always)]
-    fn store_of(
+    fn store_near<const SLOTS: usize>(
         &mut self,
         kind: StoreKind,
         rs1: u8,
         rs2: u8,
         imm: i32,
         known: &mut [Known],
-    ) -> Result<(), AllocError>
+    ) -> bool
         requires rs1 { rs1 < 32 }
         requires rs2 { rs2 < 32 }
-        requires len { length known.old ≡ 4096 }
+        requires some { 0 < SLOTS }
+        requires len { length known.old ≡ SLOTS }
         requires known { let s = state_of S.byte_at self.old in AreKnown s.map s.hart.mem known.old }
-        ensures state { OnOk result (state_of S.byte_at self.new ≡ performed (state_of S.byte_at self.old) (Instr.Store kind rs1 rs2 imm)) }
-        ensures known { OnOk result (let t = state_of S.byte_at self.new in
-            AreKnown t.map t.hart.mem known.new) }
-        ensures err { OnErr result (state_of S.byte_at self.new ≡ state_of S.byte_at self.old) }
+        ensures state { MatchBool result
+            (state_of S.byte_at self.new ≡ performed (state_of S.byte_at self.old) (Instr.Store kind rs1 rs2 imm))
+            (state_of S.byte_at self.new ≡ state_of S.byte_at self.old) }
+        ensures outcome { (state_of S.byte_at self.new).outcome ≡ (state_of S.byte_at self.old).outcome }
+        ensures known { let t = state_of S.byte_at self.new in AreKnown t.map t.hart.mem known.new }
     {
         let at = self.register(rs1).wrapping_add_signed(imm);
-        if self.is_near(at, store_bytes(kind)) {
-            let value = self.register(rs2);
-            set_value(&mut self.store, kind, at, value)?;
-            forget(known, at);
-            self.pc = self.pc.wrapping_add(4);
-            return Ok(());
-        }
-        self.store_far(kind, rs1, rs2, imm, known)
-    }
-
-    /// A store at any address.
-    #[cold]
-    #[inline(never)]
-    fn store_far(
-        &mut self,
-        kind: StoreKind,
-        rs1: u8,
-        rs2: u8,
-        imm: i32,
-        known: &mut [Known],
-    ) -> Result<(), AllocError>
-        requires rs1 { rs1 < 32 }
-        requires rs2 { rs2 < 32 }
-        requires len { length known.old ≡ 4096 }
-        requires known { let s = state_of S.byte_at self.old in AreKnown s.map s.hart.mem known.old }
-        ensures state { OnOk result (state_of S.byte_at self.new ≡ performed (state_of S.byte_at self.old) (Instr.Store kind rs1 rs2 imm)) }
-        ensures known { OnOk result (let t = state_of S.byte_at self.new in
-            AreKnown t.map t.hart.mem known.new) }
-        ensures err { OnErr result (state_of S.byte_at self.new ≡ state_of S.byte_at self.old) }
-    {
-        let at = self.register(rs1).wrapping_add_signed(imm);
-        self.store_anywhere(kind, rs1, rs2, imm, known)?;
-        self.go_near(at);
-        Ok(())
-    }
-
-    /// A store at any address, whose range is not kept.
-    fn store_anywhere(
-        &mut self,
-        kind: StoreKind,
-        rs1: u8,
-        rs2: u8,
-        imm: i32,
-        known: &mut [Known],
-    ) -> Result<(), AllocError>
-        requires rs1 { rs1 < 32 }
-        requires rs2 { rs2 < 32 }
-        requires len { length known.old ≡ 4096 }
-        requires known { let s = state_of S.byte_at self.old in AreKnown s.map s.hart.mem known.old }
-        ensures state { OnOk result (state_of S.byte_at self.new ≡ performed (state_of S.byte_at self.old) (Instr.Store kind rs1 rs2 imm)) }
-        ensures known { OnOk result (let t = state_of S.byte_at self.new in
-            AreKnown t.map t.hart.mem known.new) }
-        ensures err { OnErr result (state_of S.byte_at self.new ≡ state_of S.byte_at self.old) }
-    {
-        let at = self.register(rs1).wrapping_add_signed(imm);
-        if !has_access(&self.map, at, store_bytes(kind)) {
-            self.trap();
-            return Ok(());
+        if !self.is_near(at, store_bytes(kind)) {
+            return false;
         }
         let value = self.register(rs2);
-        set_value(&mut self.store, kind, at, value)?;
-        forget(known, at);
+        if set_value(&mut self.store, kind, at, value).is_err() {
+            return false;
+        }
+        forget::<SLOTS>(known, at);
         self.pc = self.pc.wrapping_add(4);
-        Ok(())
+        true
     }
 
     /// The access of an instruction: that of a load or a store that does not trap.
     #[inline(always)]
-    pub(super) fn access_of(&self, i: Instr) -> Option<FlatAccess>
-        requires { IsInRange i }
-        ensures { result ≡ accessed (state_of S.byte_at self.now) i }
+    pub(super) fn access_of_op(&self, op: Op) -> Option<FlatAccess>
+        requires { IsInRange (instr_of op) }
+        ensures { result ≡ accessed (state_of S.byte_at self.now) (instr_of op) }
     {
-        match i {
-            Instr::Load { kind, rs1, imm, .. } => self.load_access(kind, rs1, imm),
-            Instr::Store { kind, rs1, imm, .. } => self.store_access(kind, rs1, imm),
-            Instr::Lui { .. }
-            | Instr::Auipc { .. }
-            | Instr::Jal { .. }
-            | Instr::Jalr { .. }
-            | Instr::Branch { .. }
-            | Instr::OpImm { .. }
-            | Instr::OpReg { .. }
-            | Instr::Fence { .. }
-            | Instr::FenceI { .. }
-            | Instr::Ecall
-            | Instr::Ebreak => None,
+        match op {
+            Op::Lb { rs1, imm, .. } => self.load_access(LoadKind::Lb, rs1, imm),
+            Op::Lh { rs1, imm, .. } => self.load_access(LoadKind::Lh, rs1, imm),
+            Op::Lw { rs1, imm, .. } => self.load_access(LoadKind::Lw, rs1, imm),
+            Op::Lbu { rs1, imm, .. } => self.load_access(LoadKind::Lbu, rs1, imm),
+            Op::Lhu { rs1, imm, .. } => self.load_access(LoadKind::Lhu, rs1, imm),
+            Op::Sb { rs1, imm, .. } => self.store_access(StoreKind::Sb, rs1, imm),
+            Op::Sh { rs1, imm, .. } => self.store_access(StoreKind::Sh, rs1, imm),
+            Op::Sw { rs1, imm, .. } => self.store_access(StoreKind::Sw, rs1, imm),
+            Op::Lui { .. }
+            | Op::Auipc { .. }
+            | Op::Jal { .. }
+            | Op::Jalr { .. }
+            | Op::Beq { .. }
+            | Op::Bne { .. }
+            | Op::Blt { .. }
+            | Op::Bge { .. }
+            | Op::Bltu { .. }
+            | Op::Bgeu { .. }
+            | Op::Addi { .. }
+            | Op::Slti { .. }
+            | Op::Sltiu { .. }
+            | Op::Xori { .. }
+            | Op::Ori { .. }
+            | Op::Andi { .. }
+            | Op::Slli { .. }
+            | Op::Srli { .. }
+            | Op::Srai { .. }
+            | Op::Add { .. }
+            | Op::Sub { .. }
+            | Op::Sll { .. }
+            | Op::Slt { .. }
+            | Op::Sltu { .. }
+            | Op::Xor { .. }
+            | Op::Srl { .. }
+            | Op::Sra { .. }
+            | Op::Or { .. }
+            | Op::And { .. }
+            | Op::Mul { .. }
+            | Op::OpReg { .. } => None,
         }
-    }
-
-    /// That of a load.
-    #[inline(always)]
-    fn load_access(&self, kind: LoadKind, rs1: u8, imm: i32) -> Option<FlatAccess>
-        requires { rs1 < 32 }
-        ensures { (rd : ℕ) → result
-            ≡ accessed (state_of S.byte_at self.now) (Instr.Load kind rd rs1 imm) }
-    {
-        let at = self.register(rs1).wrapping_add_signed(imm);
-        if !self.is_mapped(at, load_bytes(kind)) {
-            return None;
-        }
-        Some(FlatAccess { at, write: false })
-    }
-
-    /// That of a store.
-    #[inline(always)]
-    fn store_access(&self, kind: StoreKind, rs1: u8, imm: i32) -> Option<FlatAccess>
-        requires { rs1 < 32 }
-        ensures { (rs2 : ℕ) → result
-            ≡ accessed (state_of S.byte_at self.now) (Instr.Store kind rs1 rs2 imm) }
-    {
-        let at = self.register(rs1).wrapping_add_signed(imm);
-        if !self.is_mapped(at, store_bytes(kind)) {
-            return None;
-        }
-        Some(FlatAccess { at, write: true })
-    }
-
-    /// Whether an access of `width` bytes is aligned and mapped. Most are near the last one.
-    #[inline(always)]
-    fn is_mapped(&self, at: u32, width: u32) -> bool
-        requires some { 1 ≤ width }
-        requires few { width ≤ 4 }
-        ensures { result ≡ can_access (state_of S.byte_at self.now).map at width }
-    {
-        self.is_near(at, width) || has_access(&self.map, at, width)
     }
 
     /// Whether an access of `width` bytes is aligned, and is where the last loads and stores were.
     #[inline(always)]
     #[tactic(auto, using(crate::proofs::Spans::near_access))]
-    fn is_near(&self, at: u32, width: u32) -> bool
+    pub(super) fn is_near(&self, at: u32, width: u32) -> bool
         requires some { 1 ≤ width }
         requires few { width ≤ 4 }
         ensures { IsTrue result → IsTrue (can_access (state_of S.byte_at self.now).map at width) }
     {
         at % width == 0 && (is_near(&self.near, at) || is_near(&self.other, at))
-    }
-
-    /// Keeps the range that a far address is in, if there is one.
-    fn go_near(&mut self, at: u32)
-        ensures state { state_of S.byte_at self.new ≡ state_of S.byte_at self.old }
-        ensures known { (known : List Known) → let s = state_of S.byte_at self.old in
-            let t = state_of S.byte_at self.new in
-            AreKnown s.map s.hart.mem known → AreKnown t.map t.hart.mem known }
-    {
-        if let Some(range) = range_around(&self.map, at, 4) {
-            self.other = self.near;
-            self.near = reach_of(&range);
-        }
     }
 }

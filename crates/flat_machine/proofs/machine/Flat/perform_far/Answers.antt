@@ -2,7 +2,7 @@
 use Rattle.std.proofs.Common.{rules, w32}
 use Rattle.std.specs.Prelude.{FitsSigned}
 use Rattle.std.proofs.lemmas.Int.{to_z-of_z}
-use Rattle.flat_machine.proofs.machine.Flat.perform_knowing.Goals as goal
+use Rattle.flat_machine.proofs.machine.Flat.perform_far.Goals as goal
 
 pub returns-in-Lui-clause-state : goal.returns-in-Lui-clause-state
 returns-in-Lui-clause-state g c = rw c.in-Lui.is c.lui.ensures
@@ -27,4 +27,4 @@ returns-in-OpReg-clause-state g c = rw c.in-OpReg.is c.op_reg.ensures
 
 pub returns-in-Load-clause-state : goal.returns-in-Load-clause-state
 returns-in-Load-clause-state g c =
-    let fits : FitsSigned w32 c.in-Load.imm = search rules in rw c.in-Load.is (simp to_z-of_z at c.load_near.ensures)
+    let fits : FitsSigned w32 c.in-Load.imm = search rules in rw c.in-Load.is (simp to_z-of_z at c.load_far.ensures)
