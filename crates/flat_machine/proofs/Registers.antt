@@ -1,17 +1,22 @@
 -- The array of registers as a function.
-use Rattle.std.proofs.Common.{◌≡◌, ◌≢◌, ℕ, ◌<◌, List, length, slice_index, slice_set, replicate, zero, suc, arith}
+use Rattle.std.proofs.Common.{◌≡◌, ℕ, ◌<◌, List, length, slice_index, slice_set, replicate, zero, suc, arith, inl, inr}
 use Rattle.std.proofs.lemmas.Grind.{common_steps}
+use Rattle.std.proofs.lemmas.Bool.{cases_eq}
 use Rattle.std.proofs.lemmas.Bool.Decides.{nat_tests}
 use Rattle.rv32im.specs.Memory.{put, zeros}
 use Rattle.rv32im.specs.Acts.{with_register}
 
-set_at : (regs : List ℕ) (rd value k : ℕ) → rd ≢ 0 → rd < length regs → slice_index (slice_set regs rd value) k ≡ with_register (λ j. slice_index regs j) rd value k
+set_at : (regs : List ℕ) (rd value k : ℕ) → slice_index regs 0 ≡ 0 → rd < length regs → slice_index (slice_set (slice_set regs rd value) 0 0) k ≡ with_register (λ j. slice_index regs j) rd value k
 unfolding put
-set_at regs rd value k some inside = grind (arith, nat_tests, common_steps)
+set_at regs rd value k none inside =
+    elim (cases_eq k 0) [
+      | inl here ↦ grind (arith, nat_tests, common_steps)
+      | inr other ↦ grind (arith, nat_tests, common_steps)
+    ]
 
--- a write into the array, but to x0, is a write of the register
-pub regs-set : (regs : List ℕ) (i rd value : ℕ) → i ≡ rd → rd ≢ 0 → rd < length regs → (λ k. slice_index (slice_set regs i value) k) ≡ with_register (λ j. slice_index regs j) rd value
-regs-set regs i rd value e some inside = rw e (λ t k. set_at regs rd value k some inside t)
+-- a write into the array, in which x0 is then 0 again, is a write of the register
+pub regs-set : (regs : List ℕ) (i rd value : ℕ) → i ≡ rd → slice_index regs 0 ≡ 0 → rd < length regs → (λ k. slice_index (slice_set (slice_set regs i value) 0 0) k) ≡ with_register (λ j. slice_index regs j) rd value
+regs-set regs i rd value e none inside = rw e (λ t k. set_at regs rd value k none inside t)
 
 -- an array of zeros
 zero_at : (n k : ℕ) → slice_index (replicate n 0) k ≡ 0

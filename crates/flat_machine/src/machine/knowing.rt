@@ -27,13 +27,16 @@ impl<S: ByteStore> Flat<S> {
         ensures err { OnErr result ((k : ℕ) × ((k < n)
             × Steps k (state_of S.byte_at self.old) (state_of S.byte_at self.new))) }
     {
+        if n == 0 {
+            return Ok(());
+        }
         if self.has_ended() {
             return Ok(());
         }
         let mut left = n;
-        while left > 0 {
+        while self.step_knowing::<SLOTS>(known)? {
             left -= 1;
-            if !self.step_knowing::<SLOTS>(known)? {
+            if left == 0 {
                 break;
             }
         }
@@ -60,6 +63,27 @@ impl<S: ByteStore> Flat<S> {
         if self.step_near::<SLOTS>(known) {
             return Ok(true);
         }
+        self.step_untold::<SLOTS>(known)
+    }
+
+    /// Takes one step of any kind. Tells whether the machine goes on.
+    // A call of its own: what tells of an access would go by way of the stack, in each step.
+    #[cold]
+    #[inline(never)]
+    fn step_untold<const SLOTS: usize>(&mut self, known: &mut [Known]) -> Result<bool, AllocError>
+        requires some { 0 < SLOTS }
+        requires len { length known.old ≡ SLOTS }
+        requires known { let s = state_of S.byte_at self.old in AreKnown s.map s.hart.mem known.old }
+        requires going { (state_of S.byte_at self.old).outcome ≡ FlatOutcome.GoesOn }
+        ensures step { OnOk result (TakesStep (state_of S.byte_at self.old)
+            (state_of S.byte_at self.new)) }
+        ensures goes { IfOk result (λ goes. MatchBool goes
+            ((state_of S.byte_at self.new).outcome ≡ FlatOutcome.GoesOn)
+            (HasEnded (state_of S.byte_at self.new).outcome)) }
+        ensures known { OnOk result (let t = state_of S.byte_at self.new in
+            AreKnown t.map t.hart.mem known.new) }
+        ensures err { OnErr result (state_of S.byte_at self.new ≡ state_of S.byte_at self.old) }
+    {
         self.step_far::<SLOTS>(known)?;
         Ok(!self.has_ended())
     }

@@ -25,9 +25,9 @@ impl<S: ByteStore> Flat<S> {
             state_of S.byte_at self.new
             ≡ record s { hart = record s.hart { regs = with_register s.hart.regs rd value } } }
     {
-        if rd != 0 {
-            self.regs[usize::from(rd)] = value;
-        }
+        // without a test of `rd`: x0 is 0 again at once
+        self.regs[usize::from(rd)] = value;
+        self.regs[0] = 0;
     }
 
     /// Puts a value into a register and goes to the next word.

@@ -4,8 +4,8 @@ use Rattle.flat_machine.specs.Machine.{state_of}
 use Rattle.flat_machine.proofs.Registers.{regs-set}
 use Rattle.flat_machine.proofs.machine.Flat.set_register.Goals as goal
 
-pub returns-then-rd-ne0 : goal.returns-then-rd-ne0
-returns-then-rd-ne0 g c =
+pub returns : goal.returns
+returns g c =
     let s = state_of g.S.ByteStore.byte_at c.args.self.now in
     ap (λ (regs : Registers). record s { hart = record s.hart { regs = regs } })
-    (regs-set c.args.self.now.regs c.from.result c.args.rd c.args.value c.from.ensures c.if-rd-ne0.true (omega arith))
+    (regs-set c.args.self.now.regs c.from.result c.args.rd c.args.value c.from.ensures c.args.self.now.zero (omega arith))
