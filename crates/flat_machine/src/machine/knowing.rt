@@ -10,7 +10,7 @@ use std::alloc::AllocError;
 // Each number of slots has a copy of its own of what performs instructions: LLVM inlines what has one caller, and a run
 // took two fifths more time where a copy had two.
 impl<S: ByteStore> Flat<S> {
-    ghost use Rattle.std.specs.Prelude.{◌≡◌, ℕ, ◌<◌, length, MatchBool, IfOk, OnOk, OnErr};
+    ghost use Rattle.std.specs.Prelude.{◌≡◌, ℕ, ◌-◌, ◌<◌, ◌≤◌, length, MatchBool, IfOk, OnOk, OnErr};
     ghost use Rattle.flat_machine.specs.{declared.events.FlatOutcome.{FlatOutcome}, Runs.{HasEnded, Steps}, Known.{AreKnown, TakesStep, TellsStep}, Machine.{state_of}};
 
     /// Takes `n` steps, or fewer where the machine ends, over a table of so many slots.
@@ -27,43 +27,44 @@ impl<S: ByteStore> Flat<S> {
         ensures err { OnErr result ((k : ℕ) × ((k < n)
             × Steps k (state_of S.byte_at self.old) (state_of S.byte_at self.new))) }
     {
-        if n == 0 {
-            return Ok(());
-        }
         if self.has_ended() {
             return Ok(());
         }
         let mut left = n;
-        while self.step_knowing::<SLOTS>(known)? {
-            left -= 1;
+        while left > 0 {
+            left = self.run_near::<SLOTS>(left, known);
             if left == 0 {
+                break;
+            }
+            left -= 1;
+            if !self.step_untold::<SLOTS>(known)? {
                 break;
             }
         }
         Ok(())
     }
 
-    /// Takes one step. Tells whether the machine goes on.
-    // Inlined, as all that most steps do: a call would pass the instruction by way of the stack.
-    #[inline(always)]
-    fn step_knowing<const SLOTS: usize>(&mut self, known: &mut [Known]) -> Result<bool, AllocError>
+    /// Takes steps as long as each is near, at most `n`. Tells how many of them are left.
+    // So nothing in its loop fails or ends the machine.
+    fn run_near<const SLOTS: usize>(&mut self, n: u64, known: &mut [Known]) -> u64
+        requires n { 0 < n }
         requires some { 0 < SLOTS }
         requires len { length known.old ≡ SLOTS }
         requires known { let s = state_of S.byte_at self.old in AreKnown s.map s.hart.mem known.old }
         requires going { (state_of S.byte_at self.old).outcome ≡ FlatOutcome.GoesOn }
-        ensures step { OnOk result (TakesStep (state_of S.byte_at self.old)
-            (state_of S.byte_at self.new)) }
-        ensures goes { IfOk result (λ goes. MatchBool goes
-            ((state_of S.byte_at self.new).outcome ≡ FlatOutcome.GoesOn)
-            (HasEnded (state_of S.byte_at self.new).outcome)) }
-        ensures known { OnOk result (let t = state_of S.byte_at self.new in
-            AreKnown t.map t.hart.mem known.new) }
-        ensures err { OnErr result (state_of S.byte_at self.new ≡ state_of S.byte_at self.old) }
+        ensures few { result ≤ n }
+        ensures steps { Steps (n - result) (state_of S.byte_at self.old) (state_of S.byte_at self.new) }
+        ensures going { (state_of S.byte_at self.new).outcome ≡ FlatOutcome.GoesOn }
+        ensures known { let t = state_of S.byte_at self.new in AreKnown t.map t.hart.mem known.new }
     {
-        if self.step_near::<SLOTS>(known) {
-            return Ok(true);
+        let mut left = n;
+        while self.step_near::<SLOTS>(known) {
+            left -= 1;
+            if left == 0 {
+                break;
+            }
         }
-        self.step_untold::<SLOTS>(known)
+        left
     }
 
     /// Takes one step of any kind. Tells whether the machine goes on.

@@ -1,5 +1,6 @@
-use Rattle.std.proofs.Common.{◌≡◌, ◌+◌, ◌-◌, refl, subst, arith}
+use Rattle.std.proofs.Common.{◌≡◌, ◌+◌, ◌-◌, sym, subst, arith}
 use Rattle.std.specs.Bool.{MatchBool}
+use Rattle.std.proofs.lemmas.Result.{err_from_is_err_and}
 use Rattle.flat_machine.specs.declared.events.FlatOutcome.TheVariants.{GoesOn}
 use Rattle.flat_machine.specs.Runs.{Steps, HasEnded}
 use Rattle.flat_machine.specs.Machine.{state_of}
@@ -11,48 +12,74 @@ pub returns-then-has_ended-clause-steps : goal.returns-then-has_ended-clause-ste
 returns-then-has_ended-clause-steps g c =
     ended_any_steps c.args.n (state_of g.S.ByteStore.byte_at c.args.self.now) c.if-has_ended.ensures
 
--- no step is asked for
-pub returns-then-n-eq0-clause-steps : goal.returns-then-n-eq0-clause-steps
-returns-then-n-eq0-clause-steps g c = rw c.if-n-eq0.true refl
+-- the step that failed was not taken
+pub returns-in_err-step_untold-clause-err : goal.returns-in_err-step_untold-clause-err
+returns-in_err-step_untold-clause-err g c =
+    let before = state_of g.S.ByteStore.byte_at c.args.self.now in
+    let start = state_of g.S.ByteStore.byte_at c.loop-left.self in
+    let here = state_of g.S.ByteStore.byte_at c.run_near-left.new.self in
+    let near = c.loop-left.left - c.run_near-left.result in
+    let taken = c.args.n - c.run_near-left.result in
+    let few = c.run_near-left.ensures.few in
+    let so_far = (c.args.n - c.loop-left.left) + near in
+    let sum : so_far ≡ taken = omega arith in
+    let steps : Steps taken before here = subst (λ k. Steps k before here) sum (steps_joined (c.args.n - c.loop-left.left) near before start here c.loop-left.invariant.steps c.run_near-left.ensures.steps) in
+    let p = err_from_is_err_and c.from_residual.result c.from_residual.ensures.1 in
+    rw p.1 (taken, (omega arith, subst (λ t. Steps taken before t) (sym c.in_err-step_untold.ensures.err) steps))
 
--- one step more
+-- near steps and one more
 pub loop-left-preserved : goal.loop-left-preserved
 loop-left-preserved g c =
     let before = state_of g.S.ByteStore.byte_at c.args.self.now in
-    let here = state_of g.S.ByteStore.byte_at c.loop-left.self in
-    let after = state_of g.S.ByteStore.byte_at c.step_knowing.new.self in
-    let taken = c.args.n - c.loop-left.left in
-    let step = c.in_ok-step_knowing.ensures.step in
-    let one : taken + 1 ≡ c.args.n - (c.loop-left.left - 1) = omega arith in
+    let start = state_of g.S.ByteStore.byte_at c.loop-left.self in
+    let here = state_of g.S.ByteStore.byte_at c.run_near-left.new.self in
+    let near = c.loop-left.left - c.run_near-left.result in
+    let taken = c.args.n - c.run_near-left.result in
+    let few = c.run_near-left.ensures.few in
+    let so_far = (c.args.n - c.loop-left.left) + near in
+    let sum : so_far ≡ taken = omega arith in
+    let steps : Steps taken before here = subst (λ k. Steps k before here) sum (steps_joined (c.args.n - c.loop-left.left) near before start here c.loop-left.invariant.steps c.run_near-left.ensures.steps) in
+    let after = state_of g.S.ByteStore.byte_at c.step_untold.new.self in
+    let step = c.in_ok-step_untold.ensures.step in
+    let one : taken + 1 ≡ c.args.n - (c.run_near-left.result - 1) = omega arith in
     record {
-      some = omega arith;
       few = omega arith;
-      steps = subst (λ k. Steps k before after) one (steps_more taken before here after step.1.event c.loop-left.invariant.steps step.1.step);
-      going = subst (λ goes. MatchBool goes (after.outcome ≡ GoesOn) (HasEnded after.outcome)) c.if-branch.true c.in_ok-step_knowing.ensures.goes;
-      known = c.in_ok-step_knowing.ensures.known;
+      steps = subst (λ k. Steps k before after) one (steps_more taken before here after step.1.event steps step.1.step);
+      going = subst (λ goes. MatchBool goes (after.outcome ≡ GoesOn) (HasEnded after.outcome)) c.if-not-branch.false c.in_ok-step_untold.ensures.goes;
+      known = c.in_ok-step_untold.ensures.known;
     }
 
 -- all steps were taken
 pub returns-then-left-eq0-clause-steps : goal.returns-then-left-eq0-clause-steps
 returns-then-left-eq0-clause-steps g c =
     let before = state_of g.S.ByteStore.byte_at c.args.self.now in
-    let here = state_of g.S.ByteStore.byte_at c.loop-left.self in
-    let after = state_of g.S.ByteStore.byte_at c.step_knowing.new.self in
-    let taken = c.args.n - c.loop-left.left in
-    let step = c.in_ok-step_knowing.ensures.step in
-    let all : taken + 1 ≡ c.args.n = omega arith in
-    subst (λ k. Steps k before after) all (steps_more taken before here after step.1.event c.loop-left.invariant.steps step.1.step)
+    let start = state_of g.S.ByteStore.byte_at c.loop-left.self in
+    let here = state_of g.S.ByteStore.byte_at c.run_near-left.new.self in
+    let near = c.loop-left.left - c.run_near-left.result in
+    let taken = c.args.n - c.run_near-left.result in
+    let few = c.run_near-left.ensures.few in
+    let so_far = (c.args.n - c.loop-left.left) + near in
+    let sum : so_far ≡ taken = omega arith in
+    let steps : Steps taken before here = subst (λ k. Steps k before here) sum (steps_joined (c.args.n - c.loop-left.left) near before start here c.loop-left.invariant.steps c.run_near-left.ensures.steps) in
+    let all : taken ≡ c.args.n = omega arith in
+    subst (λ k. Steps k before here) all steps
 
 -- the machine has ended and stays as it is
-pub returns-else-branch-clause-steps : goal.returns-else-branch-clause-steps
-returns-else-branch-clause-steps g c =
+pub returns-then-not-branch-clause-steps : goal.returns-then-not-branch-clause-steps
+returns-then-not-branch-clause-steps g c =
     let before = state_of g.S.ByteStore.byte_at c.args.self.now in
-    let here = state_of g.S.ByteStore.byte_at c.loop-left.self in
-    let after = state_of g.S.ByteStore.byte_at c.step_knowing.new.self in
-    let taken = c.args.n - c.loop-left.left in
-    let left = c.loop-left.left - 1 in
-    let step = c.in_ok-step_knowing.ensures.step in
-    let ended : HasEnded after.outcome = subst (λ goes. MatchBool goes (after.outcome ≡ GoesOn) (HasEnded after.outcome)) c.if-branch.false c.in_ok-step_knowing.ensures.goes in
+    let start = state_of g.S.ByteStore.byte_at c.loop-left.self in
+    let here = state_of g.S.ByteStore.byte_at c.run_near-left.new.self in
+    let near = c.loop-left.left - c.run_near-left.result in
+    let taken = c.args.n - c.run_near-left.result in
+    let few = c.run_near-left.ensures.few in
+    let so_far = (c.args.n - c.loop-left.left) + near in
+    let sum : so_far ≡ taken = omega arith in
+    let steps : Steps taken before here = subst (λ k. Steps k before here) sum (steps_joined (c.args.n - c.loop-left.left) near before start here c.loop-left.invariant.steps c.run_near-left.ensures.steps) in
+    let after = state_of g.S.ByteStore.byte_at c.step_untold.new.self in
+    let step = c.in_ok-step_untold.ensures.step in
+    let left = c.run_near-left.result - 1 in
+    let ended : HasEnded after.outcome = subst (λ goes. MatchBool goes (after.outcome ≡ GoesOn) (HasEnded after.outcome)) c.if-not-branch.true c.in_ok-step_untold.ensures.goes in
     let all : (taken + 1) + left ≡ c.args.n = omega arith in
     subst (λ k. Steps k before after) all
-    (steps_joined (taken + 1) left before after after (steps_more taken before here after step.1.event c.loop-left.invariant.steps step.1.step) (ended_any_steps left after ended))
+    (steps_joined (taken + 1) left before after after (steps_more taken before here after step.1.event steps step.1.step) (ended_any_steps left after ended))

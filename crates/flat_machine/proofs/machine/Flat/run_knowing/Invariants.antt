@@ -1,4 +1,4 @@
-use Rattle.std.proofs.Common.{◌≡◌, ◌-◌, ◌<◌, ◌≤◌}
+use Rattle.std.proofs.Common.{◌≡◌, ◌-◌, ◌≤◌}
 use Rattle.flat_machine.specs.declared.events.FlatOutcome.TheVariants.{GoesOn}
 use Rattle.flat_machine.specs.Runs.{Steps}
 use Rattle.flat_machine.specs.Known.{AreKnown}
@@ -8,7 +8,6 @@ use Rattle.flat_machine.proofs.machine.Flat.run_knowing.Given as goal
 -- all steps but those that are left were taken, the machine goes on, and the table is right
 abbrev pub invariant-loop-left : goal.invariant-loop-left
 invariant-loop-left g l = record {
-  some : 0 < l.left;
   few : l.left ≤ l.n;
   steps : Steps (l.n - l.left) (state_of g.S.ByteStore.byte_at l.initial.self) (state_of g.S.ByteStore.byte_at l.self);
   going : (state_of g.S.ByteStore.byte_at l.self).outcome ≡ GoesOn;
