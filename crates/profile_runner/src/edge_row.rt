@@ -52,6 +52,7 @@ impl EdgeRow {
     }
 
     /// One more edge, which may be new.
+    #[cold]
     #[inline(never)]
     fn add_other(&mut self, from: u32, to: u32) -> Result<(), AllocError>
         requires begun { All (λ e. e.from ≡ from) (edges_of self.old) }

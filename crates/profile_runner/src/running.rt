@@ -96,13 +96,14 @@ fn take_steps(
     ensures program { OnOk result ((p : Program) → IsProgram p source.old → IsProgram p source.new) }
     ensures run { OnOk result ((p : Program) (size : ℕ) → IsProgram p source.old → IsNew (length parts.now.code.now.blocks.items) size parts.now.regions.now.count first tally.old → IsAll (starts_of parts.now.code.now) parts.now.regions.now.of_block.items parts.now.regions.now.count size p (state_of p source.old) (state_of p source.new) n tally.new) }
 {
+    let regions = parts.regions;
     let mut coming = Some(first);
     for taken in 0..n {
         if !is_going(&source.outcome()) {
             break;
         }
         tell_steps(progress, taken, n);
-        coming = count_step(tally, source, parts.regions, coming)?;
+        coming = count_step(tally, source, regions, coming)?;
     }
     Ok(())
 }
