@@ -1,8 +1,9 @@
 -- What the search of the stated list finds below a node, from its visit and from the searches of its children.
-use Rattle.std.proofs.Common.{◌≡◌, ◌∙◌, ℕ, suc, ◌+◌, ◌^◌, ◌<◌, ◌≤◌, ◌*◌, Bool, true, false, List, [], ◌∷◌, length, take, slice_set, Option, Some, None, sym, ap, subst, refl, arith}
+use Rattle.std.proofs.Common.{◌≡◌, ◌∙◌, ℕ, suc, ◌+◌, ◌<◌, ◌≤◌, Bool, true, false, List, [], ◌∷◌, length, take, slice_set, Option, Some, None, sym, ap, subst, refl, arith}
 use Rattle.std.specs.List.{count_by}
 use Rattle.placement_programme.specs.Plain.{PlainSide}
 use Rattle.certificate_checker.specs.Nodes.{PlainTree, branch}
+use Rattle.certificate_checker.specs.NodeLists.{PlainNode, nodes_of}
 use Rattle.certificate_checker.specs.Fixings.{fixing_of, is_free}
 use Rattle.certificate_checker.specs.Rules.{Holds}
 use Rattle.certificate_checker.specs.Spelling.{IsTreeInRange}
@@ -11,12 +12,12 @@ use Rattle.certificate_checker.specs.declared.fixings.Fixing.TheVariants.{Zero, 
 use Rattle.certificate_checker.proofs.Children.{free_inside, zero_not_free}
 use Rattle.branch_bound.specs.Entries.{StatedFrom, alone, split, Each}
 use Rattle.branch_bound.specs.Ranking.{PassedOver, number_at}
-use Rattle.branch_bound.specs.Searching.{EntryBelow, IsTried, IsKnown, KeepsIncumbent, Opens, TriesNode, IsOpened, Finds}
+use Rattle.branch_bound.specs.Searching.{EntryBelow, IsTried, KeepsIncumbent, Opens, IsOpened, Finds}
 use Rattle.branch_bound.specs.Stands.{is_ended, CanVisit, CanLeave, CanAdvance, Stands, ahead}
 use Rattle.branch_bound.specs.Exceeding.{ExceedsOnlyRowsOf}
-use Rattle.branch_bound.specs.Trails.{steps_on, closed_on, place_of, Way, IsBehind}
+use Rattle.branch_bound.specs.Trails.{steps_on, nodes_on, IsBehind}
 use Rattle.branch_bound.specs.declared.open_branches.OpenBranch.{OpenBranch}
-use Rattle.branch_bound.specs.declared.open_branches.OpenBranch.TheVariants.{ToOne, ToZero}
+use Rattle.branch_bound.specs.declared.open_branches.OpenBranch.TheVariants.{ToOne}
 use Rattle.branch_bound.specs.declared.ranking.Ranked.{Ranked}
 use Rattle.branch_bound.specs.declared.running.Running.{Running}
 use Rattle.branch_bound.specs.declared.stands.Next.{Next}
@@ -28,7 +29,7 @@ use Rattle.branch_bound.proofs.Ranges.{one_level}
 use Rattle.branch_bound.proofs.RankingLemmas.{passed_more}
 use Rattle.branch_bound.proofs.ExceedLemmas.{one_exceeds}
 use Rattle.branch_bound.proofs.TellLemmas.{Branches, Children, tells_first, tells_second, tells_both, levels_both}
-use Rattle.branch_bound.proofs.TrailLemmas.{Turning, turning, way_opened}
+use Rattle.branch_bound.proofs.TrailLemmas.{turning, way_opened}
 use Rattle.branch_bound.proofs.VisitLemmas.{within_fits, zero_marks, zero_tried}
 
 -- a stated list has its first entry
@@ -146,24 +147,29 @@ module _ (on : Bool) (s : PlainSide) (ranking : List Ranked) where
       }
 
   -- the child that fixes it to zero takes what its parent takes
-  pub lowered_visit : (root : List Fixing) (start : Running) (place : ℕ) (steps : List OpenBranch) (trees : List PlainTree) (marks now : List Fixing) (run : Running) (next : Next) → now ≡ slice_set marks (number_at ranking place) Zero → next ≡ record { place = place + 1; raised = None } → IsBehind (number_at ranking) (IsOpened on s ranking) (Finds on s) root start (ToOne place ∷ steps) trees marks run → CanVisit s ranking now run.best.gain next
-  lowered_visit root start place steps trees marks now run next is next_is behind =
-      let t = turning (number_at ranking) (IsOpened on s ranking) (Finds on s) root start place steps trees marks run behind in
+  pub lowered_visit : (root : List Fixing) (start : Running) (place : ℕ) (steps : List OpenBranch) (nodes : List PlainNode) (marks now : List Fixing) (run : Running) (next : Next) → now ≡ slice_set marks (number_at ranking place) Zero → next ≡ record { place = place + 1; raised = None } → IsBehind (number_at ranking) (IsOpened on s ranking) (Finds on s) root start (ToOne place ∷ steps) nodes marks run → CanVisit s ranking now run.best.gain next
+  lowered_visit root start place steps nodes marks now run next is next_is behind =
+      let t = turning (number_at ranking) (IsOpened on s ranking) (Finds on s) root start place steps nodes marks run behind in
       let lowered : now ≡ slice_set t.branch_marks (number_at ranking place) Zero = is ∙ zero_marks t.branch_marks marks (number_at ranking place) t.same in
       let tried : IsTried s run.best.gain now = zero_tried s t.middle.best.gain run.best.gain t.branch_marks now (number_at ranking place) t.opened.opens.fails t.opened.here t.finds.grows t.opened.opens.greatest.holds lowered in
       subst (λ n. CanVisit s ranking now run.best.gain n) (sym next_is)
       record { passed = passed_on t.middle.best.gain t.branch_marks now place Zero t.opened.opens zero_not_free lowered; known = tried }
 
   -- the last step can be taken back
-  pub can_leave : (root : List Fixing) (start : Running) (steps : List OpenBranch) (trees : List PlainTree) (marks : List Fixing) (run : Running) → IsBehind (number_at ranking) (IsOpened on s ranking) (Finds on s) root start steps trees marks run → CanLeave ranking steps
-  can_leave root start [] trees marks run behind = tt
-  can_leave root start (last ∷ steps) trees marks run behind =
+  pub can_leave : (root : List Fixing) (start : Running) (steps : List OpenBranch) (nodes : List PlainNode) (marks : List Fixing) (run : Running) → IsBehind (number_at ranking) (IsOpened on s ranking) (Finds on s) root start steps nodes marks run → CanLeave ranking steps
+  can_leave root start [] nodes marks run behind = tt
+  can_leave root start (last ∷ steps) nodes marks run behind =
       (way_opened (number_at ranking) (IsOpened on s ranking) (Finds on s) root start last steps behind.others marks behind.old behind.way).opened.opens.inside
 
   pub can_advance : (root : List Fixing) (start : Running) (trail : Trail) (marks : List Fixing) (run : Running) (stand : Stand) → Stands on s ranking root start trail marks run stand → CanAdvance s ranking (steps_on trail) marks run.best.gain stand
   can_advance root start trail marks run (Before next) before = before.visit
-  can_advance root start trail marks run Behind behind = can_leave root start (steps_on trail) (closed_on trail) marks run behind
+  can_advance root start trail marks run Behind behind = can_leave root start (steps_on trail) (nodes_on trail) marks run behind
   can_advance root start trail marks run (Ended whole) end = tt
+
+  pub whole_nodes : (root : List Fixing) (start : Running) (trail : Trail) (marks : List Fixing) (run : Running) (stand : Stand) → Stands on s ranking root start trail marks run stand → stand ≡ Ended true → (tree : PlainTree) × (nodes_on trail ≡ nodes_of tree)
+  whole_nodes root start trail marks run stand stands is =
+      let whole = subst (λ (st : Stand). Stands on s ranking root start trail marks run st) is stands in
+      (whole.tree, whole.split)
 
   -- a search that has ended without a tree
   pub ended_without : (root : List Fixing) (start : Running) (trail : Trail) (marks : List Fixing) (run : Running) (stand : Stand) → is_ended stand ≡ true → (stand ≡ Ended true → ⊥) → Stands on s ranking root start trail marks run stand → Finds on s root start run None

@@ -1,22 +1,18 @@
 -- From the visit of a node and the searches of its children to the search below it.
-use Rattle.std.proofs.Common.{◌≡◌, inl, inr, ℕ, suc, ◌-◌, ◌<◌, ◌≤◌, Bool, true, false, ◌&&◌, List, slice_set, length, Option, Some, None, is_some, Result, Ok, Err, IfOk, refl, sym, subst, arith}
+use Rattle.std.proofs.Common.{◌≡◌, inl, inr, ℕ, suc, ◌<◌, ◌≤◌, Bool, true, false, ◌&&◌, List, length, Result, Ok, Err, IfOk, refl, sym, subst, arith}
 use Rattle.std.specs.List.{count_by}
 use Rattle.std.proofs.lemmas.Int.{ints}
 use Rattle.placement_programme.specs.Plain.{PlainSide, PlainProgramme, PlainChoice}
-use Rattle.certificate_checker.specs.Fixings.{is_free, fixing_of}
+use Rattle.certificate_checker.specs.Fixings.{is_free}
 use Rattle.certificate_checker.specs.Shows.{all_free, IsAccepted}
 use Rattle.certificate_checker.specs.declared.fixings.Fixing.{Fixing}
-use Rattle.certificate_checker.specs.declared.fixings.Fixing.TheVariants.{Zero, One, Free}
-use Rattle.certificate_checker.specs.declared.trees.Tree.{Tree}
-use Rattle.branch_bound.specs.Guided.{Gains, Asks, Stand, Spends, Searches, broken, branched, SearchesSide, SearchesOn}
+use Rattle.branch_bound.specs.Guided.{Gains, Asks, Stand, Spends, SearchesSide, SearchesOn}
 use Rattle.branch_bound.specs.FirstSearch.{nodes_within, SearchesBoth, FirstSearch, IfUnfinished}
 use Rattle.branch_bound.specs.declared.side_visiting.Round.{Round}
 use Rattle.branch_bound.specs.declared.side_visiting.Round.TheVariants.{Certified, Unfinished}
 use Rattle.branch_bound.specs.declared.guiding.NodeBound.{NodeBound}
 use Rattle.branch_bound.specs.declared.side_visiting.Visit.{Visit}
-use Rattle.branch_bound.specs.declared.side_visiting.Visit.TheVariants.{Open}
 use Rattle.branch_bound.proofs.ListLemmas.{all_free_few}
-use Rattle.branch_bound.proofs.MarkLemmas.{fewer_free}
 
 -- a choice that is accepted gains one number
 pub gains_once : (p : PlainProgramme) (c : PlainChoice) (best : ℕ) → IsAccepted p c best → Gains p c best

@@ -1,5 +1,5 @@
 -- What a search that a guide leads finds below a node, from its visit and from the searches of its children.
-use Rattle.std.proofs.Common.{◌≡◌, ℕ, suc, ◌+◌, ◌^◌, ◌<◌, ◌≤◌, ◌*◌, Bool, true, false, List, [], ◌∷◌, length, slice_set, Option, Some, None, is_some, option_map, refl, sym, ap, subst, arith}
+use Rattle.std.proofs.Common.{◌≡◌, ℕ, suc, ◌+◌, ◌<◌, ◌≤◌, Bool, true, false, List, [], ◌∷◌, length, slice_set, Option, Some, None, is_some, option_map, refl, sym, ap, subst, arith}
 use Rattle.std.specs.List.{count_by}
 use Rattle.placement_programme.specs.Plain.{PlainSide, PlainProgramme}
 use Rattle.certificate_checker.specs.Nodes.{PlainTree, branch}
@@ -10,7 +10,7 @@ use Rattle.certificate_checker.specs.declared.fixings.Fixing.TheVariants.{Zero, 
 use Rattle.branch_bound.specs.Guided.{Spends, stand, spent, stuck, closed, broken, branched}
 use Rattle.branch_bound.specs.Incumbents.{IsSound, GoesOn}
 use Rattle.branch_bound.specs.SideStands.{is_side_ended, number_itself, IsOpenedBy, FindsBy, IsOfSideVars, CanStepBack, SideStands, side_ahead}
-use Rattle.branch_bound.specs.Trails.{steps_on, closed_on, place_of, Way, IsBehind}
+use Rattle.branch_bound.specs.Trails.{steps_on, nodes_on, place_of, IsBehind}
 use Rattle.branch_bound.specs.Visits.{ShownWithin}
 use Rattle.branch_bound.specs.declared.guiding.NodeBound.{NodeBound}
 use Rattle.branch_bound.specs.declared.open_branches.OpenBranch.{OpenBranch}
@@ -18,8 +18,9 @@ use Rattle.branch_bound.specs.declared.side_incumbents.Incumbent.{Incumbent}
 use Rattle.branch_bound.specs.declared.side_stands.Stand.{Stand}
 use Rattle.branch_bound.specs.declared.side_stands.Stand.TheVariants.{Before, Behind, Ended}
 use Rattle.branch_bound.specs.declared.trails.Trail.{Trail}
-use Rattle.certificate_checker.specs.declared.trees.Tree.{Tree}
-use Rattle.certificate_checker.specs.Views.{plain_tree}
+use Rattle.certificate_checker.specs.declared.nodes.TreeNode.{TreeNode}
+use Rattle.certificate_checker.specs.NodeLists.{PlainNode, nodes_of, node_tree}
+use Rattle.certificate_checker.specs.NodeViews.{plain_node}
 use Rattle.branch_bound.specs.declared.side_visiting.Visit.TheVariants.{Closed, Stuck}
 use Rattle.branch_bound.proofs.Greater.{holds_more}
 use Rattle.branch_bound.proofs.Ranges.{one_level}
@@ -54,12 +55,12 @@ module _ {G : Type 0} (answers : G → PlainSide → List Fixing → ℕ → Nod
       record { goes_on = went_on old new sound visit.asks.grows visit.spends; shown = tt; searches = stuck visit }
 
   -- a node is closed
-  pub finds_shown : (marks : List Fixing) (old new : G × Incumbent) (tree : Tree) → IsSound p new.1 → Spends answers p on s marks (stand old.0 old.1) (Closed tree) (stand new.0 new.1) → FindsBy answers p on s marks old new (Some (plain_tree tree))
-  finds_shown marks old new tree sound visit =
+  pub finds_shown : (marks : List Fixing) (old new : G × Incumbent) (node : TreeNode) → IsSound p new.1 → Spends answers p on s marks (stand old.0 old.1) (Closed node) (stand new.0 new.1) → FindsBy answers p on s marks old new (Some (node_tree (plain_node node)))
+  finds_shown marks old new node sound visit =
       let shown = visit.asks.visited in
       record {
         goes_on = went_on old new sound visit.asks.grows visit.spends;
-        shown = (shown.0, one_level (suc (count_by is_free marks)) (plain_tree tree) (λ none. omega (arith, none)) shown.1);
+        shown = (shown.0, one_level (suc (count_by is_free marks)) (node_tree (plain_node node)) (λ none. omega (arith, none)) shown.1);
         searches = closed visit;
       }
 
@@ -113,16 +114,21 @@ module _ {G : Type 0} (answers : G → PlainSide → List Fixing → ℕ → Nod
       }
 
   -- the last step can be taken back
-  pub can_step_back : (root : List Fixing) (start : G × Incumbent) (steps : List OpenBranch) (trees : List PlainTree) (marks : List Fixing) (now : G × Incumbent) → IsBehind number_itself (IsOpenedBy answers p on s) (FindsBy answers p on s) root start steps trees marks now → IsOfSideVars s steps
-  can_step_back root start [] trees marks now behind = tt
-  can_step_back root start (last ∷ steps) trees marks now behind =
+  pub can_step_back : (root : List Fixing) (start : G × Incumbent) (steps : List OpenBranch) (nodes : List PlainNode) (marks : List Fixing) (now : G × Incumbent) → IsBehind number_itself (IsOpenedBy answers p on s) (FindsBy answers p on s) root start steps nodes marks now → IsOfSideVars s steps
+  can_step_back root start [] nodes marks now behind = tt
+  can_step_back root start (last ∷ steps) nodes marks now behind =
       let o = way_opened number_itself (IsOpenedBy answers p on s) (FindsBy answers p on s) root start last steps behind.others marks behind.old behind.way in
       (rule_of (place_of last) o.branch_marks o.old o.middle o.opened).inside
 
   pub can_go_on : (root : List Fixing) (start : G × Incumbent) (trail : Trail) (marks : List Fixing) (now : G × Incumbent) (stand : Stand) → SideStands answers p on s root start trail marks now stand → CanStepBack s (steps_on trail) stand
   can_go_on root start trail marks now Before before = tt
-  can_go_on root start trail marks now Behind behind = can_step_back root start (steps_on trail) (closed_on trail) marks now behind
+  can_go_on root start trail marks now Behind behind = can_step_back root start (steps_on trail) (nodes_on trail) marks now behind
   can_go_on root start trail marks now (Ended whole) end = tt
+
+  pub whole_side : (root : List Fixing) (start : G × Incumbent) (trail : Trail) (marks : List Fixing) (now : G × Incumbent) (stand : Stand) → SideStands answers p on s root start trail marks now stand → stand ≡ Ended true → (tree : PlainTree) × (nodes_on trail ≡ nodes_of tree)
+  whole_side root start trail marks now stand stands is =
+      let whole = subst (λ (st : Stand). SideStands answers p on s root start trail marks now st) is stands in
+      (whole.tree, whole.split)
 
   -- a search that has ended without a tree
   pub ended_side : (root : List Fixing) (start : G × Incumbent) (trail : Trail) (marks : List Fixing) (now : G × Incumbent) (stand : Stand) → is_side_ended stand ≡ true → (stand ≡ Ended true → ⊥) → SideStands answers p on s root start trail marks now stand → FindsBy answers p on s root start now None

@@ -18,7 +18,7 @@ use Rattle.branch_bound.specs.Assignments.{taken}
 use Rattle.branch_bound.specs.Greedy.{Grows, IsStart}
 use Rattle.branch_bound.specs.Growing.{CannotGrow}
 use Rattle.branch_bound.specs.Entries.{StatedFrom, StatedOn, IsStated, Each, takes_on, GainsAtMost, Reaches}
-use Rattle.branch_bound.specs.Searching.{EntryBelow, Reports, Closes, HasLevels, IsIncumbent, choice_of}
+use Rattle.branch_bound.specs.Searching.{EntryBelow, Reports, IsClosed, HasLevels, IsIncumbent, choice_of}
 use Rattle.branch_bound.specs.Solving.{ReportsOn, ClosesSide, ClosesOn, LacksTree, AreTreesOf, FailsSome, Searched, ReachesFirst, EndsWithin}
 use Rattle.branch_bound.specs.declared.outcomes.Trees.{Trees}
 use Rattle.branch_bound.specs.declared.incumbents.Incumbent.{Incumbent}
@@ -188,7 +188,7 @@ start_cannot p start is_start none =
     nothing_cannot p is_start.1.1.0.0 is_start.1.1.0.1.0 (omega (arith, is_off, greatest, none))
 
 -- trees of one node
-pub trees_off : (p : PlainProgramme) (best : ℕ) (off : Tree) → Closes p.off best (all_free p.off) off → p.on ≡ None → AreTreesOf p best record { off = off; on = None }
+pub trees_off : (p : PlainProgramme) (best : ℕ) (off : Tree) → IsClosed p.off best (all_free p.off) (plain_tree off) → p.on ≡ None → AreTreesOf p best record { off = off; on = None }
 trees_off p best off closes none =
     record {
       off = closes.0;
@@ -197,7 +197,7 @@ trees_off p best off closes none =
       on_levels = tt;
     }
 
-pub trees_both : (p : PlainProgramme) (s : PlainSide) (best : ℕ) (off on : Tree) → Closes p.off best (all_free p.off) off → p.on ≡ Some s → Closes s best (all_free s) on → AreTreesOf p best record { off = off; on = Some on }
+pub trees_both : (p : PlainProgramme) (s : PlainSide) (best : ℕ) (off on : Tree) → IsClosed p.off best (all_free p.off) (plain_tree off) → p.on ≡ Some s → IsClosed s best (all_free s) (plain_tree on) → AreTreesOf p best record { off = off; on = Some on }
 trees_both p s best off on closes is closes_on =
     record {
       off = closes.0;

@@ -1,6 +1,5 @@
 -- How a node is closed or opened.
-use Rattle.std.proofs.Common.{◌≡◌, ◌∙◌, inl, inr, ℕ, zero, suc, ◌+◌, ◌*◌, ◌<◌, ◌≤◌, false, List, [], ◌++◌, length, slice_index, slice_set, sym, ap, refl, subst, arith}
-use Rattle.std.specs.List.{count_by}
+use Rattle.std.proofs.Common.{◌≡◌, ◌∙◌, inl, inr, ℕ, zero, suc, ◌+◌, ◌*◌, ◌<◌, ◌≤◌, List, [], ◌++◌, length, slice_index, slice_set, sym, ap, refl, subst, arith}
 use Rattle.placement_programme.specs.Plain.{PlainSide}
 use Rattle.placement_programme.specs.Programme.{gain_at, Fits, taken_gains}
 use Rattle.placement_programme.proofs.TakeLemmas.{below_at_most}
@@ -11,11 +10,10 @@ use Rattle.std.proofs.lemmas.Bool.{cases_eq, cases_lt}
 use Rattle.certificate_checker.proofs.Children.{free_inside, mark_same, mark_other}
 use Rattle.branch_bound.specs.Searching.{EntryBelow, IsTried}
 use Rattle.branch_bound.specs.Assignments.{number_if, ones_below, taken, FailsEveryLeafRule, IsGreatestFree}
-use Rattle.certificate_checker.specs.Fixings.{fixing_of, is_free}
+use Rattle.certificate_checker.specs.Fixings.{fixing_of}
 use Rattle.certificate_checker.specs.declared.fixings.Fixing.{Fixing}
 use Rattle.certificate_checker.specs.declared.fixings.Fixing.TheVariants.{Zero, One, Free}
 use Rattle.branch_bound.proofs.OnesLemmas.{fits_from, over_not_fits, gains_are, nothing_taken}
-use Rattle.branch_bound.proofs.MarkLemmas.{fewer_free}
 
 -- marks on the way to the second child
 pub zero_marks : (marks now : List Fixing) (j : ℕ) → now ≡ slice_set marks j One → slice_set now j Zero ≡ slice_set marks j Zero

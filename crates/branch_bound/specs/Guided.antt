@@ -6,7 +6,7 @@ use Rattle.certificate_checker.specs.Rules.{BranchHolds}
 use Rattle.certificate_checker.specs.Shows.{all_free, IsAccepted}
 use Rattle.certificate_checker.specs.declared.fixings.Fixing.{Fixing}
 use Rattle.certificate_checker.specs.declared.fixings.Fixing.TheVariants.{Zero, One}
-use Rattle.certificate_checker.specs.declared.trees.Tree.{Tree}
+use Rattle.certificate_checker.specs.declared.nodes.TreeNode.{TreeNode}
 use Rattle.branch_bound.specs.Visits.{IsVisited}
 use Rattle.branch_bound.specs.declared.guiding.NodeBound.{NodeBound}
 use Rattle.branch_bound.specs.declared.side_incumbents.Incumbent.{Incumbent}
@@ -30,7 +30,7 @@ CannotBranch s marks (Some j) = BranchHolds s marks j → ⊥
 
 -- a visit ends without a tree and without a branch only where there is none
 abbrev pub Leads : PlainSide → List Fixing → Option ℕ → Visit → Type 0
-Leads s marks named (Closed tree) = Unit {0}
+Leads s marks named (Closed node) = Unit {0}
 Leads s marks named (Open var) = Unit {0}
 Leads s marks named Stuck = CannotBranch s marks named
 
@@ -63,7 +63,7 @@ pub record Spends {G : Type 0} (answers : G → PlainSide → List Fixing → �
 pub data Searches {G : Type 0} (answers : G → PlainSide → List Fixing → ℕ → NodeBound → G → Type 0) (p : PlainProgramme) (on : Bool) (s : PlainSide) : List Fixing → Stand G → Bool → Stand G → Type 0 where
   spent : {marks : List Fixing} {at : Stand G} → at.left ≡ 0 → Searches answers p on s marks at false at
   stuck : {marks : List Fixing} {old new : Stand G} → Spends answers p on s marks old Stuck new → Searches answers p on s marks old false new
-  closed : {marks : List Fixing} {old new : Stand G} {tree : Tree} → Spends answers p on s marks old (Closed tree) new → Searches answers p on s marks old true new
+  closed : {marks : List Fixing} {old new : Stand G} {node : TreeNode} → Spends answers p on s marks old (Closed node) new → Searches answers p on s marks old true new
   broken : {marks : List Fixing} {old between new : Stand G} {var : ℕ} → Spends answers p on s marks old (Open var) between → Searches answers p on s (slice_set marks var One) between false new → Searches answers p on s marks old false new
   branched : {marks : List Fixing} {old first second new : Stand G} {var : ℕ} {ended : Bool} → Spends answers p on s marks old (Open var) first → Searches answers p on s (slice_set marks var One) first true second → Searches answers p on s (slice_set marks var Zero) second ended new → Searches answers p on s marks old ended new
 

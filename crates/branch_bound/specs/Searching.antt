@@ -1,22 +1,23 @@
 -- What the search of a subtree and what the visit of a node tell.
-use Rattle.std.specs.Prelude.{◌≡◌, ℕ, ◌+◌, ◌<◌, ◌≤◌, Bool, List, length, slice_set, suc, Option, Some, None, IsSomeAnd, option_map}
+use Rattle.std.specs.Prelude.{◌≡◌, ℕ, ◌+◌, ◌<◌, ◌≤◌, Bool, List, length, suc, Option, Some, None, IsSomeAnd, option_map}
 use Rattle.std.proofs.Common.{take}
 use Rattle.std.specs.List.{count_by}
 use Rattle.placement_programme.specs.Plain.{PlainSide, PlainProgramme, PlainChoice}
 use Rattle.placement_programme.specs.Programme.{side_for, taken_gains, Fits}
 use Rattle.certificate_checker.specs.Fixings.{is_free}
 use Rattle.certificate_checker.specs.Nodes.{PlainTree}
+use Rattle.certificate_checker.specs.NodeLists.{node_tree}
+use Rattle.certificate_checker.specs.NodeViews.{plain_node}
 use Rattle.certificate_checker.specs.Rules.{Holds}
 use Rattle.certificate_checker.specs.Shows.{IsAccepted}
 use Rattle.certificate_checker.specs.Spelling.{IsTreeInRange}
 use Rattle.certificate_checker.specs.Views.{plain_tree}
+use Rattle.certificate_checker.specs.declared.nodes.TreeNode.{TreeNode}
 use Rattle.certificate_checker.specs.declared.trees.Tree.{Tree}
 use Rattle.branch_bound.specs.Assignments.{taken, FailsEveryLeafRule, IsGreatestFree}
 use Rattle.branch_bound.specs.Entries.{StatedFrom, Each, takes_on}
 use Rattle.branch_bound.specs.Ranking.{PassedOver, number_at}
 use Rattle.branch_bound.specs.Exceeding.{ExceedsOnlyRowsOf}
-use Rattle.branch_bound.specs.declared.open_branches.OpenBranch.{OpenBranch}
-use Rattle.branch_bound.specs.declared.open_branches.OpenBranch.TheVariants.{ToOne, ToZero}
 use Rattle.branch_bound.specs.declared.ranking.Ranked.{Ranked}
 use Rattle.branch_bound.specs.declared.incumbents.Incumbent.{Incumbent}
 use Rattle.branch_bound.specs.declared.running.Running.{Running}
@@ -51,8 +52,11 @@ abbrev pub Reports : PlainSide → ℕ → List Fixing → ℕ → ℕ → ℕ �
 Reports s start marks best left after tree = Tells s start marks best left after (option_map plain_tree tree)
 
 -- a tree of one node closes an assignment
-abbrev pub Closes : PlainSide → ℕ → List Fixing → Tree → Type 0
-Closes s best marks tree = Holds s best marks (plain_tree tree) × IsTreeInRange 1 (plain_tree tree)
+abbrev pub IsClosed : PlainSide → ℕ → List Fixing → PlainTree → Type 0
+IsClosed s best marks tree = Holds s best marks tree × IsTreeInRange 1 tree
+
+abbrev pub Closes : PlainSide → ℕ → List Fixing → TreeNode → Type 0
+Closes s best marks node = IsClosed s best marks (node_tree (plain_node node))
 
 -- a node fails every leaf rule and branches on the variable at a place of the order
 pub record Opens (s : PlainSide) (ranking : List Ranked) (best : ℕ) (marks : List Fixing) (place : ℕ) : Type 0 where
@@ -63,7 +67,7 @@ pub record Opens (s : PlainSide) (ranking : List Ranked) (best : ℕ) (marks : L
 
 -- a node is closed by a tree of one node, or opened
 abbrev pub Visits : PlainSide → List Ranked → ℕ → List Fixing → Visit → Type 0
-Visits s ranking best marks (Closed tree) = Closes s best marks tree
+Visits s ranking best marks (Closed node) = Closes s best marks node
 Visits s ranking best marks (Open place) = Opens s ranking best marks place
 
 -- a tree's numbers are in their ranges, and it has at most so many levels

@@ -1,13 +1,14 @@
 -- Where a search that a guide leads stands, and what is known there.
-use Rattle.std.specs.Prelude.{◌≡◌, ℕ, suc, ◌+◌, ◌*◌, ◌<◌, Bool, true, false, List, [], ◌∷◌, length, Option, None, is_some}
+use Rattle.std.specs.Prelude.{ℕ, suc, ◌+◌, ◌*◌, ◌<◌, Bool, true, false, List, [], ◌∷◌, length, Option, None, is_some}
 use Rattle.std.specs.List.{count_by}
 use Rattle.placement_programme.specs.Plain.{PlainSide, PlainProgramme}
 use Rattle.certificate_checker.specs.Fixings.{is_free}
 use Rattle.certificate_checker.specs.Nodes.{PlainTree}
+use Rattle.certificate_checker.specs.NodeLists.{PlainNode}
 use Rattle.certificate_checker.specs.declared.fixings.Fixing.{Fixing}
 use Rattle.branch_bound.specs.Guided.{Spends, Searches, stand}
 use Rattle.branch_bound.specs.Incumbents.{GoesOn}
-use Rattle.branch_bound.specs.Trails.{steps_on, closed_on, place_of, Way, IsBehind, IsWhole}
+use Rattle.branch_bound.specs.Trails.{steps_on, nodes_on, place_of, Way, IsBehind, IsWhole}
 use Rattle.branch_bound.specs.Visits.{ShownWithin}
 use Rattle.branch_bound.specs.declared.guiding.NodeBound.{NodeBound}
 use Rattle.branch_bound.specs.declared.open_branches.OpenBranch.{OpenBranch}
@@ -38,18 +39,18 @@ pub record FindsBy {G : Type 0} (answers : G → PlainSide → List Fixing → �
 
 abbrev pub SideWay : {G : Type 0} → (G → PlainSide → List Fixing → ℕ → NodeBound → G → Type 0) → PlainProgramme → Bool → PlainSide → List Fixing → G × Incumbent → Trail → List Fixing → G × Incumbent → Type 0
 SideWay answers p on s root start trail marks now =
-    Way number_itself (IsOpenedBy answers p on s) (FindsBy answers p on s) root start (steps_on trail) (closed_on trail) marks now
+    Way number_itself (IsOpenedBy answers p on s) (FindsBy answers p on s) root start (steps_on trail) (nodes_on trail) marks now
 
-abbrev pub IsSideEnd : {G : Type 0} → (G → PlainSide → List Fixing → ℕ → NodeBound → G → Type 0) → PlainProgramme → Bool → PlainSide → List Fixing → G × Incumbent → List PlainTree → List Fixing → G × Incumbent → Bool → Type 0
-IsSideEnd answers p on s root start trees marks now true = IsWhole (FindsBy answers p on s) root start trees marks now
-IsSideEnd answers p on s root start trees marks now false = FindsBy answers p on s root start now None
+abbrev pub IsSideEnd : {G : Type 0} → (G → PlainSide → List Fixing → ℕ → NodeBound → G → Type 0) → PlainProgramme → Bool → PlainSide → List Fixing → G × Incumbent → List PlainNode → List Fixing → G × Incumbent → Bool → Type 0
+IsSideEnd answers p on s root start nodes marks now true = IsWhole (FindsBy answers p on s) root start nodes marks now
+IsSideEnd answers p on s root start nodes marks now false = FindsBy answers p on s root start now None
 
 abbrev pub SideStands : {G : Type 0} → (G → PlainSide → List Fixing → ℕ → NodeBound → G → Type 0) → PlainProgramme → Bool → PlainSide → List Fixing → G × Incumbent → Trail → List Fixing → G × Incumbent → Stand → Type 0
 SideStands answers p on s root start trail marks now Before = SideWay answers p on s root start trail marks now
 SideStands answers p on s root start trail marks now Behind =
-    IsBehind number_itself (IsOpenedBy answers p on s) (FindsBy answers p on s) root start (steps_on trail) (closed_on trail) marks now
+    IsBehind number_itself (IsOpenedBy answers p on s) (FindsBy answers p on s) root start (steps_on trail) (nodes_on trail) marks now
 SideStands answers p on s root start trail marks now (Ended whole) =
-    IsSideEnd answers p on s root start (closed_on trail) marks now whole
+    IsSideEnd answers p on s root start (nodes_on trail) marks now whole
 
 -- the last step can be taken back
 abbrev pub IsOfSideVars : PlainSide → List OpenBranch → Type 0

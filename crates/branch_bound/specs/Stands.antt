@@ -1,11 +1,11 @@
 -- Where the search of the stated list stands, and what is known there.
-use Rattle.std.specs.Prelude.{◌≡◌, ℕ, ◌+◌, ◌*◌, ◌<◌, Bool, true, false, List, [], ◌∷◌, length, None}
+use Rattle.std.specs.Prelude.{ℕ, ◌+◌, ◌*◌, ◌<◌, Bool, true, false, List, [], ◌∷◌, length, None}
 use Rattle.placement_programme.specs.Plain.{PlainSide}
-use Rattle.certificate_checker.specs.Nodes.{PlainTree}
+use Rattle.certificate_checker.specs.NodeLists.{PlainNode}
 use Rattle.certificate_checker.specs.declared.fixings.Fixing.{Fixing}
 use Rattle.branch_bound.specs.Ranking.{PassedOver, number_at}
 use Rattle.branch_bound.specs.Searching.{IsKnown, IsOpened, Finds}
-use Rattle.branch_bound.specs.Trails.{steps_on, closed_on, place_of, Way, IsBehind, IsWhole}
+use Rattle.branch_bound.specs.Trails.{steps_on, nodes_on, place_of, Way, IsBehind, IsWhole}
 use Rattle.branch_bound.specs.declared.open_branches.OpenBranch.{OpenBranch}
 use Rattle.branch_bound.specs.declared.ranking.Ranked.{Ranked}
 use Rattle.branch_bound.specs.declared.running.Running.{Running}
@@ -36,19 +36,19 @@ CanAdvance s ranking steps marks best (Ended whole) = Unit {0}
 
 -- what is known before a node
 pub record IsBefore (on : Bool) (s : PlainSide) (ranking : List Ranked) (root : List Fixing) (start : Running) (trail : Trail) (marks : List Fixing) (run : Running) (next : Next) : Type 0 where
-  pub way : Way (number_at ranking) (IsOpened on s ranking) (Finds on s) root start (steps_on trail) (closed_on trail) marks run
+  pub way : Way (number_at ranking) (IsOpened on s ranking) (Finds on s) root start (steps_on trail) (nodes_on trail) marks run
   pub visit : CanVisit s ranking marks run.best.gain next
 
 -- what is known at the end of a search
-abbrev pub IsEnd : Bool → PlainSide → List Fixing → Running → List PlainTree → List Fixing → Running → Bool → Type 0
-IsEnd on s root start trees marks run true = IsWhole (Finds on s) root start trees marks run
-IsEnd on s root start trees marks run false = Finds on s root start run None
+abbrev pub IsEnd : Bool → PlainSide → List Fixing → Running → List PlainNode → List Fixing → Running → Bool → Type 0
+IsEnd on s root start nodes marks run true = IsWhole (Finds on s) root start nodes marks run
+IsEnd on s root start nodes marks run false = Finds on s root start run None
 
 abbrev pub Stands : Bool → PlainSide → List Ranked → List Fixing → Running → Trail → List Fixing → Running → Stand → Type 0
 Stands on s ranking root start trail marks run (Before next) = IsBefore on s ranking root start trail marks run next
 Stands on s ranking root start trail marks run Behind =
-    IsBehind (number_at ranking) (IsOpened on s ranking) (Finds on s) root start (steps_on trail) (closed_on trail) marks run
-Stands on s ranking root start trail marks run (Ended whole) = IsEnd on s root start (closed_on trail) marks run whole
+    IsBehind (number_at ranking) (IsOpened on s ranking) (Finds on s) root start (steps_on trail) (nodes_on trail) marks run
+Stands on s ranking root start trail marks run (Ended whole) = IsEnd on s root start (nodes_on trail) marks run whole
 
 -- what is left to do, in units that each step forward uses up
 abbrev pub weight_of : Stand → ℕ

@@ -2,12 +2,15 @@
 use Rattle.std.specs.Prelude.{ℕ, List, Option, Some, None, option_map}
 use Rattle.placement_programme.specs.Plain.{PlainSide}
 use Rattle.certificate_checker.specs.Nodes.{PlainTree}
+use Rattle.certificate_checker.specs.NodeLists.{node_tree}
+use Rattle.certificate_checker.specs.NodeViews.{plain_node}
 use Rattle.certificate_checker.specs.Rules.{BranchHolds, Holds}
 use Rattle.certificate_checker.specs.Shows.{ShownBy}
 use Rattle.certificate_checker.specs.Reading.{most_levels}
 use Rattle.certificate_checker.specs.Spelling.{IsTreeInRange}
 use Rattle.certificate_checker.specs.Views.{plain_tree}
 use Rattle.certificate_checker.specs.declared.fixings.Fixing.{Fixing}
+use Rattle.certificate_checker.specs.declared.nodes.TreeNode.{TreeNode}
 use Rattle.certificate_checker.specs.declared.trees.Tree.{Tree}
 use Rattle.branch_bound.specs.declared.side_visiting.OnSide.{OnSide}
 use Rattle.branch_bound.specs.declared.side_visiting.OnSide.TheVariants.{Absent, Shown, Unfinished}
@@ -23,9 +26,13 @@ ShownWithin s best marks levels (Some tree) = Holds s best marks tree × IsTreeI
 abbrev pub ShownBelow : PlainSide → ℕ → List Fixing → ℕ → Option Tree → Type 0
 ShownBelow s best marks levels tree = ShownWithin s best marks levels (option_map plain_tree tree)
 
+-- the same of a node that is found
+abbrev pub ShownHere : PlainSide → ℕ → List Fixing → Option TreeNode → Type 0
+ShownHere s best marks node = ShownWithin s best marks 1 (option_map (λ n. node_tree (plain_node n)) node)
+
 -- a node is closed by a tree that holds, or may be branched on
 abbrev pub IsVisited : PlainSide → ℕ → List Fixing → Visit → Type 0
-IsVisited s best marks (Closed tree) = ShownBelow s best marks 1 (Some tree)
+IsVisited s best marks (Closed node) = ShownHere s best marks (Some node)
 IsVisited s best marks (Open var) = BranchHolds s marks var
 IsVisited s best marks Stuck = Unit {0}
 

@@ -1,21 +1,34 @@
 ghost use Rattle.std.specs.Prelude.{◌≡◌, ◌⊎◌, ◌^◌, ◌≤◌, Some, None, MatchOption, IfSome, IfOk};
 ghost use Rattle.placement_programme.specs.Views.{plain_side, plain_programme};
-ghost use Rattle.certificate_checker.specs.{Shows.{all_free}, Reading.{most_levels}};
-ghost use Rattle.branch_bound.specs.{Assignments.{FailsEveryLeafRule}, Searching.{Closes, HasLevels}, Solving.{ClosesSide, ClosesOn, LacksTree, AreTreesOf, FailsSome}};
+ghost use Rattle.certificate_checker.specs.{NodeLists.{node_tree}, NodeViews.{plain_node}, Spelling.{IsTreeInRange}, Views.{plain_tree}, Shows.{all_free}, Reading.{most_levels}};
+ghost use Rattle.branch_bound.specs.{Assignments.{FailsEveryLeafRule}, Searching.{IsClosed, HasLevels}, Solving.{ClosesSide, ClosesOn, LacksTree, AreTreesOf, FailsSome}};
 
 use crate::closing::plain_dual;
 use crate::outcomes::Trees;
-use certificate_checker::{Assignment, Tree, free_marks};
+use certificate_checker::{Assignment, Tree, TreeNode, free_marks, tree_of};
 use placement_programme::{Programme, Side};
 use std::alloc::{AllocError, Global};
+
+/// A tree of one node.
+fn one_node(alloc: Global, node: TreeNode) -> Result<Tree, AllocError>
+    requires { IsTreeInRange 1 (node_tree (plain_node node)) }
+    ensures { IfOk result (λ tree. plain_tree tree ≡ node_tree (plain_node node)) }
+{
+    let mut nodes = Vec::new(alloc);
+    nodes.push(node)?;
+    Ok(tree_of(nodes))
+}
 
 /// A tree of one node that closes a side; None where its first entry fails every leaf rule.
 fn first_tree(alloc: Global, side: &Side, best: u128) -> Result<Option<Tree>, AllocError>
     requires { best ≤ 2 ^ 104 }
-    ensures { IfOk result (λ tree. MatchOption tree (FailsEveryLeafRule (plain_side side.now) best (all_free (plain_side side.now))) (Closes (plain_side side.now) best (all_free (plain_side side.now)))) }
+    ensures { IfOk result (λ tree. MatchOption tree (FailsEveryLeafRule (plain_side side.now) best (all_free (plain_side side.now))) (λ t. IsClosed (plain_side side.now) best (all_free (plain_side side.now)) (plain_tree t))) }
 {
     let root = Assignment::of(alloc, side, free_marks(alloc, side)?)?;
-    Ok(plain_dual(alloc, side, &root, best))
+    match plain_dual(alloc, side, &root, best) {
+        None => Ok(None),
+        Some(node) => Ok(Some(one_node(alloc, node)?)),
+    }
 }
 
 /// The trees of both sides, where the search finished them.

@@ -2,23 +2,23 @@ ghost use Rattle.std.specs.Prelude.{ℕ, ◌^◌, ◌<◌, ◌≤◌, ◌↔◌,
 ghost use Rattle.std.specs.List.{All};
 ghost use Rattle.placement_programme.specs.{Bounds.{value_of}, Views.{plain_side}};
 ghost use Rattle.certificate_checker.specs.{Rules.{BranchHolds, DualHolds}, RowWise.{rows_of, IsOfSide}, Spelling.{IsDualInRange}};
-ghost use Rattle.branch_bound.specs.{Visits.{ShownBelow, IsVisited}, Guided.{CannotBranch, Leads}};
+ghost use Rattle.branch_bound.specs.{Visits.{ShownHere, IsVisited}, Guided.{CannotBranch, Leads}};
 
 use crate::guiding::DualSolution;
 use crate::side_visiting::Visit;
-use certificate_checker::{Fixing, Tree, Weighed, branch_holds, dual_holds_by_row, keeps_rule};
+use certificate_checker::{Fixing, TreeNode, Weighed, branch_holds, dual_holds_by_row, keeps_rule};
 use placement_programme::Side;
 use std::alloc::{AllocError, Global};
 
 /// A row that is exceeded fathoms a node.
-fn fathom_over(side: &Side, best: u128, marks: &[Fixing], row: Option<u32>) -> Option<Tree>
+fn fathom_over(side: &Side, best: u128, marks: &[Fixing], row: Option<u32>) -> Option<TreeNode>
     requires best { best ≤ 2 ^ 104 }
     requires marked { length (plain_side side.now).vars ≤ length marks.now }
-    ensures { ShownBelow (plain_side side.now) best marks.now 1 result }
+    ensures { ShownHere (plain_side side.now) best marks.now result }
 {
-    let tree = Tree::Over { row: row? };
-    if keeps_rule(side, best, marks, &tree) {
-        Some(tree)
+    let node = TreeNode::Over { row: row? };
+    if keeps_rule(side, best, marks, &node) {
+        Some(node)
     } else {
         None
     }
@@ -55,52 +55,52 @@ pub(crate) fn fathom_dual(
     best: u128,
     marks: &[Fixing],
     dual: Option<DualSolution>,
-) -> Result<Option<Tree>, AllocError>
+) -> Result<Option<TreeNode>, AllocError>
     requires by_row { IsOfSide (plain_side weighed.now.side.now) (rows_of weighed.now.by_row.now) }
     requires best { best ≤ 2 ^ 104 }
     requires marked { length (plain_side weighed.now.side.now).vars ≤ length marks.now }
-    ensures { IfOk result (ShownBelow (plain_side weighed.now.side.now) best marks.now 1) }
+    ensures { IfOk result (ShownHere (plain_side weighed.now.side.now) best marks.now) }
 {
     let Some(dual) = dual else {
         return Ok(None);
     };
     if is_dual(alloc, weighed, best, marks, &dual)? {
         let DualSolution { scale, multipliers } = dual;
-        Ok(Some(Tree::Dual { scale, multipliers }))
+        Ok(Some(TreeNode::Dual { scale, multipliers }))
     } else {
         Ok(None)
     }
 }
 
 /// A node at which nothing is free is fathomed where it gains no more.
-fn fathom_leaf(side: &Side, best: u128, marks: &[Fixing]) -> Option<Tree>
+fn fathom_leaf(side: &Side, best: u128, marks: &[Fixing]) -> Option<TreeNode>
     requires best { best ≤ 2 ^ 104 }
     requires marked { length (plain_side side.now).vars ≤ length marks.now }
-    ensures { ShownBelow (plain_side side.now) best marks.now 1 result }
+    ensures { ShownHere (plain_side side.now) best marks.now result }
 {
-    let tree = Tree::Leaf;
-    if keeps_rule(side, best, marks, &tree) {
-        Some(tree)
+    let node = TreeNode::Leaf;
+    if keeps_rule(side, best, marks, &node) {
+        Some(node)
     } else {
         None
     }
 }
 
-/// A tree of one node, if one fathoms the node.
+/// What fathoms the node, if anything does.
 fn fathom(
     side: &Side,
     best: u128,
     marks: &[Fixing],
     exceeded: Option<u32>,
-    dual: Option<Tree>,
-) -> Option<Tree>
+    dual: Option<TreeNode>,
+) -> Option<TreeNode>
     requires best { best ≤ 2 ^ 104 }
     requires marked { length (plain_side side.now).vars ≤ length marks.now }
-    requires dual { ShownBelow (plain_side side.now) best marks.now 1 dual }
-    ensures { ShownBelow (plain_side side.now) best marks.now 1 result }
+    requires dual { ShownHere (plain_side side.now) best marks.now dual }
+    ensures { ShownHere (plain_side side.now) best marks.now result }
 {
-    if let Some(tree) = fathom_over(side, best, marks, exceeded) {
-        return Some(tree);
+    if let Some(node) = fathom_over(side, best, marks, exceeded) {
+        return Some(node);
     }
     if dual.is_some() {
         return dual;
@@ -134,23 +134,23 @@ fn open(side: &Side, marks: &[Fixing], suggested: Option<u32>) -> Option<u32>
     }
 }
 
-/// Fathoms a node, with the tree of a dual solution if there is one, or finds the variable to branch on.
+/// Fathoms a node, by a dual solution if there is one, or finds the variable to branch on.
 pub(crate) fn fathom_or_branch(
     side: &Side,
     best: u128,
     marks: &[Fixing],
     exceeded: Option<u32>,
-    dual: Option<Tree>,
+    dual: Option<TreeNode>,
     suggested: Option<u32>,
 ) -> Visit
     requires best { best ≤ 2 ^ 104 }
     requires marked { length (plain_side side.now).vars ≤ length marks.now }
-    requires dual { ShownBelow (plain_side side.now) best marks.now 1 dual }
+    requires dual { ShownHere (plain_side side.now) best marks.now dual }
     ensures visited { IsVisited (plain_side side.now) best marks.now result }
     ensures leads { Leads (plain_side side.now) marks.now suggested result }
 {
-    if let Some(tree) = fathom(side, best, marks, exceeded, dual) {
-        return Visit::Closed(tree);
+    if let Some(node) = fathom(side, best, marks, exceeded, dual) {
+        return Visit::Closed(node);
     }
     match open(side, marks, suggested) {
         Some(number) => Visit::Open(number),

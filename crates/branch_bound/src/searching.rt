@@ -1,8 +1,8 @@
 ghost use Rattle.std.specs.Prelude.{◌≡◌, ℕ, suc, ◌+◌, ◌^◌, ◌<◌, ◌≤◌, length, Option, Some, None, true, false, Bool, List, ◌∷◌, option_map, IfSome, IfOk, OnOk};
 ghost use Rattle.std.specs.List.{count_by};
 ghost use Rattle.placement_programme.specs.{Plain.{PlainSide}, Programme.{Fits}, Views.{plain_side}};
-ghost use Rattle.certificate_checker.specs.{Fixings.{is_free}, Tallies.{AreTallies}, declared.fixings.Fixing.{Fixing}, Views.{plain_tree}};
-ghost use Rattle.branch_bound.specs.{Assignments.{taken, IsGreatestFree}, Ranking.{IsRanking, PassedOver, number_at}, Searching.{EntryBelow, IsKnown, Reports, Visits, HasLevels, KeepsIncumbent, TriesNode, IsOpened, Finds}, Trails.{steps_on, closed_on, place_of, IsBehind}, Stands.{CanVisit, IsBefore, Stands, CanAdvance, is_ended, ahead}, declared.ranking.Ranked.{Ranked}, declared.running.Running.{Running}, declared.stands.Stand.TheVariants.{Before, Behind}};
+ghost use Rattle.certificate_checker.specs.{Fixings.{is_free}, Tallies.{AreTallies}, declared.fixings.Fixing.{Fixing}, Nodes.{PlainTree}, NodeLists.{nodes_of}, Views.{plain_tree}};
+ghost use Rattle.branch_bound.specs.{Assignments.{taken, IsGreatestFree}, Ranking.{IsRanking, PassedOver, number_at}, Searching.{EntryBelow, IsKnown, Reports, Visits, HasLevels, KeepsIncumbent, TriesNode, IsOpened, Finds}, Trails.{steps_on, nodes_on, place_of, IsBehind}, Stands.{CanVisit, IsBefore, Stands, CanAdvance, is_ended, ahead}, declared.ranking.Ranked.{Ranked}, declared.running.Running.{Running}, declared.stands.Stand.TheVariants.{Before, Behind, Ended}};
 
 use crate::closing::plain_dual;
 use crate::exceeding::exceeded;
@@ -11,9 +11,9 @@ use crate::open_branches::OpenBranch;
 use crate::ranking::{Ranked, first_free};
 use crate::running::{Running, tell_nodes};
 use crate::stands::{Next, Stand, has_ended};
-use crate::trails::{Trail, close, first_trail, join, last_closed, step_back, step_to};
+use crate::trails::{Trail, close, first_trail, join, step_back, step_to, whole_tree};
 use crate::visiting::Visit;
-use certificate_checker::{Assignment, Tree};
+use certificate_checker::{Assignment, Tree, TreeNode};
 use placement_programme::Side;
 use shelf_io::Progress;
 use std::alloc::{AllocError, Global};
@@ -40,7 +40,7 @@ fn close_or_open(alloc: Global, task: &Task, node: &Assignment, place: usize, be
     ensures { Visits (plain_side task.now.side.now) task.now.ranking.now best node.now.marks.items result }
 {
     match plain_dual(alloc, task.side, node, best) {
-        Some(tree) => Visit::Closed(tree),
+        Some(closed) => Visit::Closed(closed),
         None => Visit::Open(place),
     }
 }
@@ -57,7 +57,7 @@ fn visit_known(alloc: Global, task: &Task, node: &Assignment, place: usize, best
     ensures { Visits (plain_side task.now.side.now) task.now.ranking.now best node.now.marks.items result }
 {
     match first_free(task.side, task.ranking, &node.marks, place) {
-        None => Visit::Closed(Tree::Leaf),
+        None => Visit::Closed(TreeNode::Leaf),
         Some(found) => close_or_open(alloc, task, node, found, best),
     }
 }
@@ -106,7 +106,7 @@ fn visit(
     match raised {
         None => Ok(visit_known(alloc, task, node, place, run.best.gain)),
         Some(number) => match exceeded(node, task.side, number as usize) {
-            Some(row) => Ok(Visit::Closed(Tree::Over { row })),
+            Some(row) => Ok(Visit::Closed(TreeNode::Over { row })),
             None => visit_fitting(alloc, task, node, place, run),
         },
     }
@@ -138,8 +138,8 @@ fn visit_next(
     run.left -= 1;
     tell_nodes(progress, run);
     match visit(task.alloc, task, node, next.place, run, next.raised)? {
-        Visit::Closed(tree) => {
-            close(trail, tree)?;
+        Visit::Closed(closed) => {
+            close(trail, closed)?;
             Ok(Stand::Behind)
         }
         Visit::Open(place) => {
@@ -167,7 +167,7 @@ fn leave(
     requires inside { place_of last < length task.now.ranking.now }
     ensures tallies { AreTallies (plain_side task.now.side.now) node.new }
     ensures stands { IfOk result (λ stand. (root : List Fixing) (start run : Running)
-        → IsBehind (number_at task.now.ranking.now) (IsOpened task.now.on (plain_side task.now.side.now) task.now.ranking.now) (Finds task.now.on (plain_side task.now.side.now)) root start (last ∷ steps_on trail.old) (closed_on trail.old) node.old.marks.items run
+        → IsBehind (number_at task.now.ranking.now) (IsOpened task.now.on (plain_side task.now.side.now) task.now.ranking.now) (Finds task.now.on (plain_side task.now.side.now)) root start (last ∷ steps_on trail.old) (nodes_on trail.old) node.old.marks.items run
         → Stands task.now.on (plain_side task.now.side.now) task.now.ranking.now root start trail.new node.new.marks.items run stand) }
     ensures ahead { IfOk result (λ stand. (run : Running) → ahead run trail.new stand < ahead run trail.old Behind + 3) }
 {
@@ -183,7 +183,7 @@ fn leave(
         OpenBranch::ToZero(place) => {
             let number = task.ranking[place].number;
             node.free(task.side, number as usize);
-            join(trail, task.alloc, number)?;
+            join(trail, number)?;
             Ok(Stand::Behind)
         }
     }
@@ -221,12 +221,13 @@ fn advance(
 
 /// The tree of the root at the end of a search; None where the budget ended before everything was closed.
 fn ended_tree(trail: Trail, stand: Stand) -> Option<Tree>
-    requires { is_ended stand ≡ true }
+    requires ended { is_ended stand ≡ true }
+    requires whole { stand ≡ Ended true → (tree : PlainTree) × (nodes_on trail ≡ nodes_of tree) }
     ensures finds { (on : Bool) (s : PlainSide) (ranking : List Ranked) (root : List Fixing) (start : Running) (marks : List Fixing) (run : Running) → Stands on s ranking root start trail marks run stand → Finds on s root start run (option_map plain_tree result) }
     ensures kept { (on : Bool) (s : PlainSide) (ranking : List Ranked) (root : List Fixing) (start : Running) (marks : List Fixing) (run : Running) → Stands on s ranking root start trail marks run stand → IfSome result (λ t. marks ≡ root) }
 {
     match stand {
-        Stand::Ended { whole: true } => last_closed(trail),
+        Stand::Ended { whole: true } => Some(whole_tree(trail)),
         _ => None,
     }
 }

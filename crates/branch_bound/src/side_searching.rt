@@ -1,8 +1,8 @@
 ghost use Rattle.std.specs.Prelude.{◌≡◌, ℕ, ◌+◌, ◌^◌, ◌<◌, ◌≤◌, true, false, Bool, List, ◌∷◌, length, is_some, option_map, IfSome, IfOk, OnOk};
 ghost use Rattle.std.specs.List.{count_by};
 ghost use Rattle.placement_programme.specs.{Plain.{PlainSide, PlainProgramme}, Views.{plain_side, plain_programme, plain_choice}};
-ghost use Rattle.certificate_checker.specs.{Fixings.{is_free}, declared.fixings.Fixing.{Fixing}, RowWise.{rows_of, IsOfSide}, Views.{plain_tree}};
-ghost use Rattle.branch_bound.specs.{Incumbents.{IsSound, GoesOn}, Visits.{ShownBelow, IsVisited}, Rounds.{IsReady}, Guided.{Gains, Takes, Asks, Searches, stand}, Trails.{steps_on, closed_on, place_of, IsBehind}, SideStands.{number_itself, IsOpenedBy, FindsBy, SideWay, SideStands, CanStepBack, is_side_ended, side_ahead}, declared.side_incumbents.Incumbent.{Incumbent}, declared.side_stands.Stand.TheVariants.{Before, Behind}};
+ghost use Rattle.certificate_checker.specs.{Fixings.{is_free}, declared.fixings.Fixing.{Fixing}, RowWise.{rows_of, IsOfSide}, Nodes.{PlainTree}, NodeLists.{nodes_of}, Views.{plain_tree}};
+ghost use Rattle.branch_bound.specs.{Incumbents.{IsSound, GoesOn}, Visits.{ShownBelow, IsVisited}, Rounds.{IsReady}, Guided.{Gains, Takes, Asks, Searches, stand}, Trails.{steps_on, nodes_on, place_of, IsBehind}, SideStands.{number_itself, IsOpenedBy, FindsBy, SideWay, SideStands, CanStepBack, is_side_ended, side_ahead}, declared.side_incumbents.Incumbent.{Incumbent}, declared.side_stands.Stand.TheVariants.{Before, Behind, Ended}};
 
 use crate::fathoming::{fathom_dual, fathom_or_branch};
 use crate::guiding::{Guide, NodeBound};
@@ -10,7 +10,7 @@ use crate::open_branches::OpenBranch;
 use crate::side_incumbents::Incumbent;
 use crate::side_stands::{Stand, has_ended};
 use crate::side_visiting::Visit;
-use crate::trails::{Trail, close, first_trail, join, last_closed, step_back, step_to};
+use crate::trails::{Trail, close, first_trail, join, step_back, step_to, whole_tree};
 use certificate_checker::{Fixing, RowWise, Tree, Weighed, accepted};
 use placement_programme::{Choice, Programme, Side};
 use std::alloc::{AllocError, Global};
@@ -111,8 +111,8 @@ fn visit_next<G: Guide>(
     }
     best.left -= 1;
     match visit(task.alloc, task, guide, marks, best)? {
-        Visit::Closed(tree) => {
-            close(trail, tree)?;
+        Visit::Closed(closed) => {
+            close(trail, closed)?;
             Ok(Stand::Behind)
         }
         Visit::Stuck => Ok(Stand::Ended { whole: false }),
@@ -136,7 +136,7 @@ fn leave<G: Guide>(
     requires inside { place_of last < length (plain_side task.now.side.now).vars }
     requires marked { length (plain_side task.now.side.now).vars ≤ length marks.old }
     ensures stands { IfOk result (λ stand. (root : List Fixing) (start now : G × Incumbent)
-        → IsBehind number_itself (IsOpenedBy G.answers (plain_programme task.now.programme.now) task.now.on (plain_side task.now.side.now)) (FindsBy G.answers (plain_programme task.now.programme.now) task.now.on (plain_side task.now.side.now)) root start (last ∷ steps_on trail.old) (closed_on trail.old) marks.old now
+        → IsBehind number_itself (IsOpenedBy G.answers (plain_programme task.now.programme.now) task.now.on (plain_side task.now.side.now)) (FindsBy G.answers (plain_programme task.now.programme.now) task.now.on (plain_side task.now.side.now)) root start (last ∷ steps_on trail.old) (nodes_on trail.old) marks.old now
         → SideStands G.answers (plain_programme task.now.programme.now) task.now.on (plain_side task.now.side.now) root start trail.new marks.new now stand) }
     ensures ahead { IfOk result (λ stand. (best : Incumbent) → side_ahead best trail.new stand < side_ahead best trail.old Behind + 3) }
 {
@@ -148,7 +148,7 @@ fn leave<G: Guide>(
         }
         OpenBranch::ToZero(place) => {
             marks[place] = Fixing::Free;
-            join(trail, task.alloc, place as u32)?;
+            join(trail, place as u32)?;
             Ok(Stand::Behind)
         }
     }
@@ -183,12 +183,13 @@ fn advance<G: Guide>(
 
 /// The tree of the root at the end of a search; None where it came to no end.
 fn ended_tree<G: Guide>(trail: Trail, at: Stand) -> Option<Tree>
-    requires { is_side_ended at ≡ true }
+    requires ended { is_side_ended at ≡ true }
+    requires whole { at ≡ Ended true → (tree : PlainTree) × (nodes_on trail ≡ nodes_of tree) }
     ensures finds { (p : PlainProgramme) (on : Bool) (s : PlainSide) (root : List Fixing) (start : G × Incumbent) (marks : List Fixing) (now : G × Incumbent) → SideStands G.answers p on s root start trail marks now at → FindsBy G.answers p on s root start now (option_map plain_tree result) }
     ensures kept { (p : PlainProgramme) (on : Bool) (s : PlainSide) (root : List Fixing) (start : G × Incumbent) (marks : List Fixing) (now : G × Incumbent) → SideStands G.answers p on s root start trail marks now at → IfSome result (λ t. marks ≡ root) }
 {
     match at {
-        Stand::Ended { whole: true } => last_closed(trail),
+        Stand::Ended { whole: true } => Some(whole_tree(trail)),
         _ => None,
     }
 }

@@ -1,11 +1,11 @@
 use crate::side_incumbents::Incumbent;
-use certificate_checker::{Certificate, Tree};
+use certificate_checker::{Certificate, Tree, TreeNode};
 
 /// What the visit of a node finds.
 #[derive(Drop)]
 pub(crate) enum Visit {
-    /// Nothing below gains more, as this tree of one node shows.
-    Closed(Tree),
+    /// Nothing below gains more, as this node shows.
+    Closed(TreeNode),
     /// The search branches on this variable.
     Open(u32),
     /// No rule closes the node, and no variable is free.

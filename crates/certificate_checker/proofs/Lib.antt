@@ -21,3 +21,5 @@ pub mod RoomLemmas
 pub mod WayLemmas
 pub mod RowLoads
 pub mod TallyLemmas
+pub mod NodeLemmas
+pub mod NodeWalks

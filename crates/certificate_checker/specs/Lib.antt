@@ -4,6 +4,8 @@ pub use Rattle.placement_programme.specs.Bounds
 pub use Rattle.placement_programme.specs.Programme
 pub use Rattle.placement_programme.specs.Sums
 pub mod Nodes
+pub mod NodeLists
+pub mod NodeViews
 pub mod Fixings
 pub mod Rules
 pub mod Shows

@@ -1,8 +1,10 @@
 -- What a text says, read from the left, and the first byte that breaks the grammar.
-use Rattle.std.specs.Prelude.{◌≡◌, ◌⊎◌, ℕ, zero, suc, ◌-◌, ◌==◌, nat_lt, nat_le, Bool, true, false, ◌&&◌, if◌then◌else◌, List, [], ◌∷◌, length, Option, Some, None, option_map, Result, Ok, Err}
+use Rattle.std.specs.Prelude.{◌≡◌, ◌⊎◌, ℕ, zero, suc, ◌-◌, ◌==◌, nat_lt, nat_le, Bool, true, false, ◌&&◌, if◌then◌else◌, List, [], ◌∷◌, ◌++◌, length, Option, Some, None, option_map, Result, Ok, Err}
+use Rattle.std.specs.Borrow.{Bor}
 use Rattle.placement_programme.specs.Plain.{PlainChoice}
 use Rattle.placement_programme.specs.Bounds.{row_of}
 use Rattle.certificate_checker.specs.Nodes.{PlainTree, branch, over, dual, leaf, PlainCertificate}
+use Rattle.certificate_checker.specs.NodeLists.{PlainNode, nodes_of}
 use Rattle.certificate_checker.specs.Shows.{in_32_bits}
 use Rattle.certificate_checker.specs.Digits.{number_at}
 use Rattle.certificate_checker.specs.Views.{plain_tree}
@@ -106,6 +108,11 @@ tree_at total (suc levels) (suc (suc zero) ∷ bytes) = dual_at total bytes
 tree_at total (suc levels) (suc (suc (suc zero)) ∷ bytes) = Ok (leaf, bytes)
 tree_at total (suc levels) (suc (suc (suc (suc tag))) ∷ bytes) =
     Err (BadNode (place total (suc (suc (suc (suc tag))) ∷ bytes)))
+
+-- what reading the nodes of a tree behind others leaves
+abbrev pub ReadsNodes : List PlainNode → List PlainNode → Result (Bor (List ℕ)) CertFault → Result (PlainTree × List ℕ) CertFault → Type 0
+ReadsNodes old new (Ok rest) read = (t : PlainTree) × ((read ≡ Ok (t, rest.now)) × (new ≡ old ++ nodes_of t))
+ReadsNodes old new (Err e) read = Fails e read
 
 -- a root and the depths 1 to 4096
 unfoldable pub most_levels : ℕ

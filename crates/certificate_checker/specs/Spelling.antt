@@ -4,6 +4,7 @@ use Rattle.std.specs.List.{All, flat_map}
 use Rattle.placement_programme.specs.Plain.{PlainChoice}
 use Rattle.placement_programme.specs.Bounds.{AscendWithin, RowsWithin, row_of, value_of}
 use Rattle.certificate_checker.specs.Nodes.{PlainTree, branch, over, dual, leaf, PlainCertificate}
+use Rattle.certificate_checker.specs.NodeLists.{PlainNode, branch_node, over_node, dual_node, leaf_node}
 use Rattle.certificate_checker.specs.Digits.{number_of}
 use Rattle.certificate_checker.specs.Reading.{most_levels}
 
@@ -16,6 +17,13 @@ tree_text (branch j l r) = 0 ∷ (number_of j ++ (tree_text l ++ tree_text r))
 tree_text (over row) = 1 ∷ number_of row
 tree_text (dual scale ms) = 2 ∷ (number_of scale ++ (number_of (length ms) ++ flat_map entry_text ms))
 tree_text leaf = 3 ∷ []
+
+-- a node's tag and numbers
+abbrev pub node_text : PlainNode → List ℕ
+node_text (branch_node j) = 0 ∷ number_of j
+node_text (over_node row) = 1 ∷ number_of row
+node_text (dual_node scale ms) = 2 ∷ (number_of scale ++ (number_of (length ms) ++ flat_map entry_text ms))
+node_text leaf_node = 3 ∷ []
 
 abbrev pub flag_text : Bool → ℕ
 flag_text false = 0

@@ -1,20 +1,17 @@
 -- What trees, certificates and verdicts of the code are as plain lists and numbers.
-use Rattle.std.specs.Prelude.{option_map}
+use Rattle.std.specs.Prelude.{map, option_map}
 use Rattle.placement_programme.specs.Views.{plain_choice}
-use Rattle.certificate_checker.specs.Nodes.{PlainTree, branch, over, dual, leaf, PlainCertificate}
+use Rattle.certificate_checker.specs.Nodes.{PlainTree, PlainCertificate}
+use Rattle.certificate_checker.specs.NodeLists.{tree_of}
+use Rattle.certificate_checker.specs.NodeViews.{plain_node}
 use Rattle.certificate_checker.specs.Shows.{PlainVerdict, optimal, best_found, bad_choice, wrong}
 use Rattle.certificate_checker.specs.declared.trees.Tree.{Tree}
-use Rattle.certificate_checker.specs.declared.trees.Tree.TheVariants.{Branch', Over, Dual, Leaf}
 use Rattle.certificate_checker.specs.declared.trees.Certificate.{Certificate}
 use Rattle.certificate_checker.specs.declared.verdict.Verdict.{Verdict}
 use Rattle.certificate_checker.specs.declared.verdict.Verdict.TheVariants.{Optimal, BestFound, BadChoice, Wrong}
 
--- in `Branch'` each box has its allocator beside the child
 abbrev pub plain_tree : Tree → PlainTree
-plain_tree (Branch' j a l b r) = branch j (plain_tree l) (plain_tree r)
-plain_tree (Over row) = over row
-plain_tree (Dual scale ms) = dual scale ms.items
-plain_tree Leaf = leaf
+plain_tree tree = tree_of (map plain_node tree.nodes.items)
 
 abbrev pub plain_certificate : Certificate → PlainCertificate
 plain_certificate c =

@@ -6,7 +6,7 @@ use crate::columns::var_count;
 use crate::fixings::Fixing;
 use crate::trees::{Certificate, Tree};
 use crate::verdict::Verdict;
-use crate::walking::{Failing, walk};
+use crate::walking::{Failing, walk_tree};
 use placement_programme::{Choice, Programme, Side, feasible, gain_of};
 
 /// What a choice gains, if it is feasible and that is at least 0.
@@ -36,7 +36,7 @@ fn check_tree(
         Some(tree) => {
             let free = &mut marks[..var_count(side)];
             free.fill(Fixing::Free);
-            match walk(side, best, free, tree, 0, 0) {
+            match walk_tree(side, best, free, tree) {
                 Ok(_) => Ok(()),
                 Err(failing) => Err(failing),
             }

@@ -4,6 +4,7 @@
 //! that bound the gain, or nothing left to fix. The check trusts nobody who made the tree.
 #![tactic(auto)]
 
+mod assembling;
 mod assignments;
 mod checking;
 mod columns;
@@ -16,6 +17,7 @@ mod laws;
 mod loading;
 mod loads;
 mod multipliers;
+mod nodes;
 mod prices;
 mod reading;
 mod rooms;
@@ -35,6 +37,7 @@ mod verdict;
 mod walking;
 mod writing;
 
+pub use assembling::tree_of;
 pub use assignments::Assignment;
 pub use checking::{accepted, check};
 pub use columns::{gain_of_var, var_count, weights_of_var};
@@ -42,12 +45,13 @@ pub use duals::{Weighed, dual_holds_by_row};
 pub use fault::CertFault;
 pub use fixings::{Fixing, fixing_of, free_marks, is_free, is_one};
 pub use laws::{one_answer, one_certificate, one_text, reads_spelled, shown_is_least};
+pub use nodes::TreeNode;
 pub use reading::read_tree;
 pub use rooms::Room;
 pub use row_wise::RowWise;
 pub use rules::{branch_holds, keeps_rule};
 pub use steps::PathStep;
 pub use text_checking::check_text;
-pub use trees::{Certificate, Tree, branch_on};
+pub use trees::{Certificate, Tree};
 pub use verdict::Verdict;
 pub use writing::write_tree;

@@ -1,12 +1,14 @@
-ghost use Rattle.std.specs.Prelude.{◌≡◌, IfOk, Ok};
+ghost use Rattle.std.specs.Prelude.{◌≡◌, ℕ, suc, List, [], ◌∷◌, ◌++◌, map, IfOk, OnOk, Ok};
 ghost use Rattle.placement_programme.specs.Views.{plain_choice};
-ghost use Rattle.certificate_checker.specs.{Nodes.{PlainCertificate}, Spelling.{Spells}, Views.{plain_tree, plain_certificate}, Reading.{Gives, GivesAlways, below_all, entries_at, vars_at, over_at, dual_at, tree_at, most_levels, choice_at, plain_trees, trees_at, trees_for, certificate_of, body_at}};
+ghost use Rattle.certificate_checker.specs.{Nodes.{PlainCertificate}, NodeLists.{node_tree}, NodeViews.{plain_node}, Loading.{IsSingle, SplitsFirst}, Spelling.{Spells}, Views.{plain_tree, plain_certificate}, Reading.{Gives, ReadsNodes, GivesAlways, below_all, entries_at, vars_at, over_at, dual_at, tree_at, most_levels, choice_at, plain_trees, trees_at, trees_for, certificate_of, body_at}};
 
+use crate::assembling::tree_of;
 use crate::fault::CertFault;
 use crate::fields::{Part, cut_off, entry, flag, mark, number_in, place, small_number};
-use crate::trees::{Certificate, Tree, branch_on};
+use crate::nodes::TreeNode;
+use crate::trees::{Certificate, Tree};
 use placement_programme::Choice;
-use std::alloc::Global;
+use std::alloc::{AllocError, Global};
 
 /// So many rows, ascending, each with its multiplier.
 fn entries(
@@ -51,24 +53,26 @@ fn vars(
 }
 
 #[tactic(auto, unfolding(crate::specs::Reading::over_at))]
-fn over(total: usize, bytes: &[u8]) -> Result<(Tree, &[u8]), CertFault>
-    ensures { GivesAlways (λ x. (plain_tree x.0, x.1.now)) result (over_at total bytes.now) }
+fn over(total: usize, bytes: &[u8]) -> Result<(TreeNode, &[u8]), CertFault>
+    ensures reads { GivesAlways (λ x. (node_tree (plain_node x.0), x.1.now)) result (over_at total bytes.now) }
+    ensures single { IfOk result (λ x. IsSingle (node_tree (plain_node x.0))) }
 {
     match small_number(Part::Node, 0, total, bytes) {
         Err(fault) => Err(fault),
-        Ok((row, rest)) => Ok((Tree::Over { row }, rest)),
+        Ok((row, rest)) => Ok((TreeNode::Over { row }, rest)),
     }
 }
 
 #[tactic(auto, unfolding(crate::specs::Reading::dual_at))]
-fn dual(alloc: Global, total: usize, bytes: &[u8]) -> Result<(Tree, &[u8]), CertFault>
-    ensures { Gives (λ x. (plain_tree x.0, x.1.now)) result (dual_at total bytes.now) }
+fn dual(alloc: Global, total: usize, bytes: &[u8]) -> Result<(TreeNode, &[u8]), CertFault>
+    ensures reads { Gives (λ x. (node_tree (plain_node x.0), x.1.now)) result (dual_at total bytes.now) }
+    ensures single { IfOk result (λ x. IsSingle (node_tree (plain_node x.0))) }
 {
     let (scale, rest) = number_in(Part::Node, 1, 65536, total, bytes)?;
     let (count, rest) = small_number(Part::Node, 0, total, rest)?;
     let (multipliers, rest) = entries(alloc, count, total, rest)?;
     let scale = scale as u32;
-    Ok((Tree::Dual { scale, multipliers }, rest))
+    Ok((TreeNode::Dual { scale, multipliers }, rest))
 }
 
 /// What is wrong with a tag below the last level.
@@ -83,26 +87,79 @@ pub(crate) fn below_all(total: usize, bytes: &[u8], tag: u8) -> CertFault
     }
 }
 
-/// A tree of at most `levels` levels.
-#[tactic(auto, unfolding(crate::specs::Reading::tree_at))]
-fn node(alloc: Global, levels: u32, total: usize, bytes: &[u8]) -> Result<(Tree, &[u8]), CertFault>
-    ensures { Gives (λ x. (plain_tree x.0, x.1.now)) result (tree_at total levels bytes.now) }
+fn first_byte(total: usize, bytes: &[u8]) -> Result<(u8, &[u8]), CertFault>
+    ensures { SplitsFirst total bytes.now result }
 {
     match bytes {
         [] => Err(cut_off(total)),
-        [tag, ..] if levels == 0 => Err(below_all(total, bytes, *tag)),
-        [0, rest @ ..] => {
-            let (var, rest) = small_number(Part::Node, 0, total, rest)?;
-            let (zero, rest) = node(alloc, levels - 1, total, rest)?;
-            let (one, rest) = node(alloc, levels - 1, total, rest)?;
-            Ok((branch_on(alloc, var, zero, one)?, rest))
-        }
+        [first, rest @ ..] => Ok((*first, rest)),
+    }
+}
+
+/// A node that isn't a branch.
+#[tactic(auto, unfolding(crate::specs::Reading::tree_at))]
+fn single(alloc: Global, total: usize, bytes: &[u8]) -> Result<(TreeNode, &[u8]), CertFault>
+    requires tag { (rest : List ℕ) → bytes.now ≡ 0 ∷ rest → ⊥ }
+    ensures reads { (levels : ℕ) → Gives (λ x. (node_tree (plain_node x.0), x.1.now)) result (tree_at total (suc levels) bytes.now) }
+    ensures single { IfOk result (λ x. IsSingle (node_tree (plain_node x.0))) }
+{
+    match bytes {
+        [] => Err(cut_off(total)),
         [1, rest @ ..] => over(total, rest),
         [2, rest @ ..] => dual(alloc, total, rest),
-        [3, rest @ ..] => Ok((Tree::Leaf, rest)),
+        [3, rest @ ..] => Ok((TreeNode::Leaf, rest)),
         [_, ..] => Err(CertFault::BadNode {
             at: place(total, bytes),
         }),
+    }
+}
+
+/// Appends a node.
+fn append(nodes: &mut Vec<TreeNode>, node: TreeNode) -> Result<(), AllocError>
+    ensures { OnOk result (map plain_node nodes.new.items ≡ map plain_node nodes.old.items ++ plain_node node ∷ []) }
+{
+    nodes.push(node)?;
+    Ok(())
+}
+
+/// Appends the nodes of a tree of at most `levels` levels.
+fn nodes_at<'a>(
+    alloc: Global,
+    levels: u32,
+    total: usize,
+    bytes: &'a [u8],
+    nodes: &mut Vec<TreeNode>,
+) -> Result<&'a [u8], CertFault>
+    ensures { ReadsNodes (map plain_node nodes.old.items) (map plain_node nodes.new.items) result (tree_at total levels bytes.now) }
+{
+    let (tag, behind) = match first_byte(total, bytes) {
+        Err(fault) => return Err(fault),
+        Ok(split) => split,
+    };
+    if levels == 0 {
+        return Err(below_all(total, bytes, tag));
+    }
+    if tag != 0 {
+        return match single(alloc, total, bytes) {
+            Err(fault) => Err(fault),
+            Ok((node, rest)) => {
+                append(nodes, node)?;
+                Ok(rest)
+            }
+        };
+    }
+    let (var, children) = match small_number(Part::Node, 0, total, behind) {
+        Err(fault) => return Err(fault),
+        Ok(read) => read,
+    };
+    append(nodes, TreeNode::Branch { var })?;
+    let second = match nodes_at(alloc, levels - 1, total, children, nodes) {
+        Err(fault) => return Err(fault),
+        Ok(rest) => rest,
+    };
+    match nodes_at(alloc, levels - 1, total, second, nodes) {
+        Err(fault) => Err(fault),
+        Ok(rest) => Ok(rest),
     }
 }
 
@@ -111,7 +168,11 @@ fn node(alloc: Global, levels: u32, total: usize, bytes: &[u8]) -> Result<(Tree,
 fn root(alloc: Global, total: usize, bytes: &[u8]) -> Result<(Tree, &[u8]), CertFault>
     ensures { Gives (λ x. (plain_tree x.0, x.1.now)) result (tree_at total most_levels bytes.now) }
 {
-    node(alloc, 4097, total, bytes)
+    let mut nodes = Vec::new(alloc);
+    match nodes_at(alloc, 4097, total, bytes, &mut nodes) {
+        Err(fault) => Err(fault),
+        Ok(rest) => Ok((tree_of(nodes), rest)),
+    }
 }
 
 #[tactic(auto, unfolding(crate::specs::Reading::choice_at))]

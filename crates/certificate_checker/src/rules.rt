@@ -1,11 +1,11 @@
 ghost use Rattle.std.specs.Prelude.{◌≡◌, ◌^◌, ◌<◌, ◌≤◌, ◌↔◌, IsTrue, length};
 ghost use Rattle.placement_programme.specs.Views.{plain_side};
-ghost use Rattle.certificate_checker.specs.{Rules.{OverHolds, LeafHolds, BranchHolds, KeepsRule}, Views.{plain_tree}};
+ghost use Rattle.certificate_checker.specs.{Rules.{OverHolds, LeafHolds, BranchHolds, KeepsRule}, NodeLists.{node_tree}, NodeViews.{plain_node}};
 
 use crate::columns::{gain_of_var, var_count, weight_in_row};
 use crate::duals::dual_holds;
 use crate::fixings::{Fixing, fixing_of, is_free, is_one};
-use crate::trees::Tree;
+use crate::nodes::TreeNode;
 use placement_programme::Side;
 
 /// Whether a branch fixes a variable that is free.
@@ -53,15 +53,15 @@ pub(crate) fn leaf_holds(side: &Side, best: u128, marks: &[Fixing]) -> bool
 }
 
 /// Whether a node keeps its own rule under these marks, with nothing said of those below it; `best` has the fixed cost taken off.
-pub fn keeps_rule(side: &Side, best: u128, marks: &[Fixing], tree: &Tree) -> bool
+pub fn keeps_rule(side: &Side, best: u128, marks: &[Fixing], node: &TreeNode) -> bool
     requires best { best ≤ 2 ^ 104 }
     requires marked { length (plain_side side.now).vars ≤ length marks.now }
-    ensures { IsTrue result ↔ KeepsRule (plain_side side.now) best marks.now (plain_tree tree.now) }
+    ensures { IsTrue result ↔ KeepsRule (plain_side side.now) best marks.now (node_tree (plain_node node.now)) }
 {
-    match tree {
-        Tree::Branch { var, .. } => branch_holds(side, marks, *var),
-        Tree::Over { row } => over_holds(side, marks, *row),
-        Tree::Dual { scale, multipliers } => dual_holds(side, best, marks, *scale, multipliers),
-        Tree::Leaf => leaf_holds(side, best, marks),
+    match node {
+        TreeNode::Branch { var } => branch_holds(side, marks, *var),
+        TreeNode::Over { row } => over_holds(side, marks, *row),
+        TreeNode::Dual { scale, multipliers } => dual_holds(side, best, marks, *scale, multipliers),
+        TreeNode::Leaf => leaf_holds(side, best, marks),
     }
 }

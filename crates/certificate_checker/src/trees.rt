@@ -1,29 +1,16 @@
-ghost use Rattle.std.specs.Prelude.{◌≡◌, IfOk};
-ghost use Rattle.certificate_checker.specs.{Nodes.{branch}, Views.{plain_tree}};
+ghost use Rattle.std.specs.Prelude.{◌≡◌, map, Some};
+ghost use Rattle.std.proofs.Props.{props};
+ghost use Rattle.certificate_checker.specs.{NodeLists.{tree_count}, NodeViews.{plain_node}};
 
+use crate::nodes::TreeNode;
 use placement_programme::Choice;
-use std::alloc::{AllocError, Global};
 
 /// A proof that a side's choices gain no more than a bound.
 #[derive(Drop)]
-pub enum Tree {
-    /// The choices without a variable, and those with it.
-    Branch {
-        var: u32,
-        zero: Box<Tree>,
-        one: Box<Tree>,
-    },
-    /// The variables that are fixed to one exceed a row.
-    Over {
-        row: u32,
-    },
-    /// Rows, ascending, each with a multiplier, and the scale of the gains, from 1 to 65,536: weak duality bounds the gain.
-    Dual {
-        scale: u32,
-        multipliers: Vec<(u32, u64)>,
-    },
-    /// All variables are fixed, and gain no more.
-    Leaf,
+pub struct Tree {
+    /// Its nodes: behind a branch come those of the choices without its variable, and then those of the choices with it.
+    pub nodes: Vec<TreeNode>,
+    pub ghost whole: { tree_count (map plain_node nodes.items) ≡ Some 1 } by { Prim.hlevel props },
 }
 
 /// A choice, and what shows that none is better.
@@ -34,13 +21,4 @@ pub struct Certificate {
     pub off: Option<Tree>,
     /// The tree of the side with overlay, where the programme has one.
     pub on: Option<Tree>,
-}
-
-/// A branch on a variable over the trees of its two children.
-pub fn branch_on(alloc: Global, var: u32, zero: Tree, one: Tree) -> Result<Tree, AllocError>
-    ensures { IfOk result (λ tree. plain_tree tree ≡ branch var (plain_tree zero) (plain_tree one)) }
-{
-    let zero = Box::new(alloc, zero)?;
-    let one = Box::new(alloc, one)?;
-    Ok(Tree::Branch { var, zero, one })
 }

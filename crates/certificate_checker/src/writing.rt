@@ -1,8 +1,9 @@
 ghost use Rattle.std.specs.Prelude.{◌≡◌, ◌*◌, ◌^◌, ◌<◌, ◌++◌, ◌∷◌, [], length, OnOk, IfOk};
 ghost use Rattle.std.specs.List.{flat_map};
 ghost use Rattle.placement_programme.specs.Views.{plain_choice};
-ghost use Rattle.certificate_checker.specs.{Views.{plain_tree, plain_certificate}, Digits.{digits_of, number_of}, Spelling.{entry_text, tree_text, flag_text, choice_text, trees_text, text_of}};
+ghost use Rattle.certificate_checker.specs.{NodeViews.{plain_node}, Views.{plain_tree, plain_certificate}, Digits.{digits_of, number_of}, Spelling.{entry_text, node_text, tree_text, flag_text, choice_text, trees_text, text_of}};
 
+use crate::nodes::TreeNode;
 use crate::trees::{Certificate, Tree};
 use placement_programme::Choice;
 use std::alloc::{AllocError, Global};
@@ -68,21 +69,35 @@ fn push_dual(out: &mut Vec<u8>, scale: u32, multipliers: &[(u32, u64)]) -> Resul
     push_entries(out, multipliers)
 }
 
-fn push_node(out: &mut Vec<u8>, tree: &Tree) -> Result<(), AllocError>
-    ensures { OnOk result (out.new.items ≡ out.old.items ++ tree_text (plain_tree tree.now)) }
+fn push_node(out: &mut Vec<u8>, node: &TreeNode) -> Result<(), AllocError>
+    ensures { OnOk result (out.new.items ≡ out.old.items ++ node_text (plain_node node.now)) }
 {
-    match tree {
-        Tree::Branch { var, zero, one } => {
-            push_tagged(out, 0, *var)?;
-            push_node(out, zero)?;
-            push_node(out, one)
-        }
-        Tree::Over { row } => push_tagged(out, 1, *row),
-        Tree::Dual { scale, multipliers } => push_dual(out, *scale, multipliers),
-        Tree::Leaf => {
+    match node {
+        TreeNode::Branch { var } => push_tagged(out, 0, *var),
+        TreeNode::Over { row } => push_tagged(out, 1, *row),
+        TreeNode::Dual { scale, multipliers } => push_dual(out, *scale, multipliers),
+        TreeNode::Leaf => {
             out.push(3)?;
             Ok(())
         }
+    }
+}
+
+fn push_nodes(out: &mut Vec<u8>, nodes: &[TreeNode]) -> Result<(), AllocError>
+    ensures { OnOk result (out.new.items ≡ out.old.items ++ flat_map (λ node. node_text (plain_node node)) nodes.now) }
+{
+    for node in nodes {
+        push_node(out, node)?;
+    }
+    Ok(())
+}
+
+fn push_tree(out: &mut Vec<u8>, tree: &Tree) -> Result<(), AllocError>
+    ensures { OnOk result (out.new.items ≡ out.old.items ++ tree_text (plain_tree tree.now)) }
+{
+    match push_nodes(out, &tree.nodes) {
+        Ok(_) => Ok(()),
+        Err(error) => Err(error),
     }
 }
 
@@ -102,12 +117,12 @@ fn push_trees(out: &mut Vec<u8>, c: &Certificate) -> Result<(), AllocError>
         Some(off) => match &c.on {
             None => {
                 push_number(out, 1)?;
-                push_node(out, off)
+                push_tree(out, off)
             }
             Some(on) => {
                 push_number(out, 2)?;
-                push_node(out, off)?;
-                push_node(out, on)
+                push_tree(out, off)?;
+                push_tree(out, on)
             }
         },
     }

@@ -10,18 +10,9 @@ use std::alloc::Global;
 /// How many nodes are visited at most, as where a board does not say it.
 const NODES: u64 = 100_000;
 
-fn nodes_of(tree: &Tree) -> u64 {
-    match tree {
-        Tree::Branch { zero, one, .. } => nodes_of(zero)
-            .saturating_add(nodes_of(one))
-            .saturating_add(1),
-        Tree::Over { .. } | Tree::Dual { .. } | Tree::Leaf => 1,
-    }
-}
-
 fn nodes_of_side(tree: &Option<Tree>) -> u64 {
     match tree {
-        Some(tree) => nodes_of(tree),
+        Some(tree) => tree.nodes.len() as u64,
         None => 0,
     }
 }

@@ -1,15 +1,12 @@
-use Rattle.std.proofs.Common.{◌≡◌, ◌+◌, ◌<◌, ◌∷◌, false, IfOk, sym, subst}
+use Rattle.std.proofs.Common.{◌≡◌, ◌+◌, ◌<◌, false, sym, subst}
 use Rattle.placement_programme.specs.Views.{plain_side}
-use Rattle.certificate_checker.specs.Views.{plain_tree}
 use Rattle.branch_bound.specs.Ranking.{number_at}
-use Rattle.branch_bound.specs.Searching.{IsOpened, Finds, Visits}
-use Rattle.branch_bound.specs.Trails.{steps_on, closed_on, IsBehind, IsWhole}
+use Rattle.branch_bound.specs.Searching.{IsOpened, Finds}
+use Rattle.branch_bound.specs.Trails.{nodes_on, IsBehind, IsWhole}
 use Rattle.branch_bound.specs.Stands.{Stands, ahead, is_ended}
-use Rattle.branch_bound.specs.declared.open_branches.OpenBranch.{OpenBranch}
 use Rattle.branch_bound.specs.declared.running.Running.{Running}
 use Rattle.branch_bound.specs.declared.stands.Stand.{Stand}
-use Rattle.branch_bound.specs.declared.stands.Stand.TheVariants.{Behind, Ended}
-use Rattle.branch_bound.specs.declared.visiting.Visit.{Visit}
+use Rattle.branch_bound.specs.declared.stands.Stand.TheVariants.{Behind}
 use Rattle.branch_bound.proofs.FindLemmas.{ended_ahead, less_ahead}
 use Rattle.branch_bound.proofs.TrailLemmas.{whole_found, if_ok_more}
 use Rattle.branch_bound.proofs.searching.advance.Goals as goal
@@ -23,9 +20,9 @@ returns-in-None-clause-stands g c root start stands =
     let marks = c.args.node.now.marks.items in
     let run = c.args.run.now in
     let behind = subst (λ (st : Stand). Stands on s ranking root start trail marks run st) c.in-Behind.is stands in
-    let there = subst (λ steps. IsBehind (number_at ranking) (IsOpened on s ranking) (Finds on s) root start steps (closed_on trail) marks run) c.in-None.ensures.steps.0 behind in
+    let there = subst (λ steps. IsBehind (number_at ranking) (IsOpened on s ranking) (Finds on s) root start steps (nodes_on trail) marks run) c.in-None.ensures.steps.0 behind in
     subst (λ trees. IsWhole (Finds on s) root start trees marks run) (sym c.in-None.ensures.closed)
-    (whole_found (number_at ranking) (IsOpened on s ranking) (Finds on s) root start (closed_on trail) marks run there)
+    (whole_found (number_at ranking) (IsOpened on s ranking) (Finds on s) root start (nodes_on trail) marks run there)
 
 pub returns-in-None-clause-ahead : goal.returns-in-None-clause-ahead
 returns-in-None-clause-ahead g c =

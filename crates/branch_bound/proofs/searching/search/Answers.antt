@@ -1,16 +1,8 @@
-use Rattle.std.proofs.Common.{sym, subst}
 use Rattle.placement_programme.specs.Views.{plain_side}
-use Rattle.certificate_checker.specs.Views.{plain_tree}
 use Rattle.branch_bound.specs.Ranking.{number_at}
-use Rattle.branch_bound.specs.Searching.{IsOpened, Finds, Visits}
-use Rattle.branch_bound.specs.Trails.{steps_on, closed_on, IsBehind, IsWhole}
-use Rattle.branch_bound.specs.Stands.{Stands, ahead, is_ended}
-use Rattle.branch_bound.specs.declared.open_branches.OpenBranch.{OpenBranch}
-use Rattle.branch_bound.specs.declared.running.Running.{Running}
-use Rattle.branch_bound.specs.declared.stands.Stand.{Stand}
-use Rattle.branch_bound.specs.declared.stands.Stand.TheVariants.{Behind, Ended}
-use Rattle.branch_bound.specs.declared.visiting.Visit.{Visit}
-use Rattle.branch_bound.proofs.FindLemmas.{can_advance}
+use Rattle.branch_bound.specs.Searching.{IsOpened, Finds}
+use Rattle.branch_bound.specs.Trails.{steps_on, nodes_on}
+use Rattle.branch_bound.proofs.FindLemmas.{can_advance, whole_nodes}
 use Rattle.branch_bound.proofs.TrailLemmas.{begins}
 use Rattle.branch_bound.proofs.searching.search.Goals as goal
 
@@ -28,7 +20,7 @@ loop-node-init g c =
     let start = c.args.run.now in
     record {
       stands = record {
-        way = begins (number_at ranking) (IsOpened on s ranking) (Finds on s) root start (steps_on c.first_trail-trail.result) (closed_on c.first_trail-trail.result) c.first_trail-trail.ensures.steps c.first_trail-trail.ensures.closed;
+        way = begins (number_at ranking) (IsOpened on s ranking) (Finds on s) root start (steps_on c.first_trail-trail.result) (nodes_on c.first_trail-trail.result) c.first_trail-trail.ensures.steps c.first_trail-trail.ensures.closed;
         visit = record { passed = c.requires.passed; known = c.requires.known };
       };
       tallies = c.requires.tallies;
@@ -42,6 +34,11 @@ loop-node-preserved g c =
       tallies = c.advance.ensures.tallies;
       small = c.advance.ensures.small;
     }
+
+pub ended_tree-requires-clause-whole : goal.ended_tree-requires-clause-whole
+ended_tree-requires-clause-whole g c =
+    let s = plain_side c.args.task.now.side.now in
+    whole_nodes c.args.task.now.on s c.args.task.now.ranking.now c.args.node.now.marks.items c.args.run.now c.loop-node.trail c.loop-node.node.marks.items c.loop-node.run c.loop-node.stand c.loop-node.invariant.stands
 
 pub returns-clause-kept : goal.returns-clause-kept
 returns-clause-kept g c =

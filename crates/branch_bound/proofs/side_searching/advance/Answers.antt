@@ -1,15 +1,10 @@
-use Rattle.std.proofs.Common.{◌≡◌, ◌+◌, ◌<◌, ◌∷◌, List, false, IfOk, sym, subst}
+use Rattle.std.proofs.Common.{◌≡◌, ◌+◌, ◌<◌, ◌∷◌, false, sym, subst}
 use Rattle.placement_programme.specs.Views.{plain_side, plain_programme}
-use Rattle.certificate_checker.specs.Views.{plain_tree}
 use Rattle.branch_bound.specs.SideStands.{number_itself, IsOpenedBy, FindsBy, SideStands, side_ahead, is_side_ended}
-use Rattle.branch_bound.specs.Trails.{steps_on, closed_on, IsBehind, IsWhole}
-use Rattle.branch_bound.specs.declared.open_branches.OpenBranch.{OpenBranch}
+use Rattle.branch_bound.specs.Trails.{steps_on, nodes_on, IsBehind, IsWhole}
 use Rattle.branch_bound.specs.declared.side_incumbents.Incumbent.{Incumbent}
 use Rattle.branch_bound.specs.declared.side_stands.Stand.{Stand}
-use Rattle.branch_bound.specs.declared.side_stands.Stand.TheVariants.{Behind, Ended}
-use Rattle.branch_bound.specs.Guided.{stand}
-use Rattle.branch_bound.specs.declared.side_visiting.Visit.TheVariants.{Closed, Open, Stuck}
-use Rattle.certificate_checker.specs.declared.fixings.Fixing.{Fixing}
+use Rattle.branch_bound.specs.declared.side_stands.Stand.TheVariants.{Behind}
 use Rattle.branch_bound.proofs.SideFindLemmas.{beside, ended_side_ahead, less_side_ahead}
 use Rattle.branch_bound.proofs.TrailLemmas.{whole_found, if_ok_more}
 use Rattle.branch_bound.proofs.side_searching.advance.Goals as goal
@@ -24,9 +19,9 @@ returns-in-None-clause-stands g c root start stands =
     let marks = c.args.marks.now in
     let now = beside c.args.guide.now c.args.best.now in
     let behind = subst (λ (st : Stand). SideStands answers p on s root start trail marks now st) c.in-Behind.is stands in
-    let there = subst (λ steps. IsBehind number_itself (IsOpenedBy answers p on s) (FindsBy answers p on s) root start steps (closed_on trail) marks now) c.in-None.ensures.steps.0 behind in
+    let there = subst (λ steps. IsBehind number_itself (IsOpenedBy answers p on s) (FindsBy answers p on s) root start steps (nodes_on trail) marks now) c.in-None.ensures.steps.0 behind in
     subst (λ trees. IsWhole (FindsBy answers p on s) root start trees marks now) (sym c.in-None.ensures.closed)
-    (whole_found number_itself (IsOpenedBy answers p on s) (FindsBy answers p on s) root start (closed_on trail) marks now there)
+    (whole_found number_itself (IsOpenedBy answers p on s) (FindsBy answers p on s) root start (nodes_on trail) marks now there)
 
 pub returns-in-None-clause-ahead : goal.returns-in-None-clause-ahead
 returns-in-None-clause-ahead g c =
@@ -45,7 +40,7 @@ returns-in-Some-clause-stands g c =
     if_ok_more _ _ c.leave.result
     (λ next leaves root start stands.
     let behind = subst (λ (st : Stand). SideStands answers p on s root start trail marks now st) c.in-Behind.is stands in
-    let there = subst (λ steps. IsBehind number_itself (IsOpenedBy answers p on s) (FindsBy answers p on s) root start steps (closed_on trail) marks now) c.in-Some.ensures.steps behind in
+    let there = subst (λ steps. IsBehind number_itself (IsOpenedBy answers p on s) (FindsBy answers p on s) root start steps (nodes_on trail) marks now) c.in-Some.ensures.steps behind in
     leaves root start now (subst (λ trees. IsBehind number_itself (IsOpenedBy answers p on s) (FindsBy answers p on s) root start (c.in-Some.last ∷ steps_on middle) trees marks now) (sym c.in-Some.ensures.closed) there))
     c.leave.ensures.stands
 

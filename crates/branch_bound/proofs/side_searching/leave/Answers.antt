@@ -1,14 +1,8 @@
 use Rattle.std.proofs.Common.{◌∷◌, refl, subst}
 use Rattle.placement_programme.specs.Views.{plain_side, plain_programme}
-use Rattle.certificate_checker.specs.Views.{plain_tree}
-use Rattle.branch_bound.specs.SideStands.{number_itself, IsOpenedBy, FindsBy, SideStands, side_ahead, is_side_ended}
-use Rattle.branch_bound.specs.Trails.{steps_on, closed_on, IsBehind, IsWhole}
+use Rattle.branch_bound.specs.SideStands.{number_itself, IsOpenedBy, FindsBy}
+use Rattle.branch_bound.specs.Trails.{steps_on, nodes_on, IsBehind}
 use Rattle.branch_bound.specs.declared.open_branches.OpenBranch.{OpenBranch}
-use Rattle.branch_bound.specs.declared.side_incumbents.Incumbent.{Incumbent}
-use Rattle.branch_bound.specs.declared.side_stands.Stand.{Stand}
-use Rattle.branch_bound.specs.declared.side_stands.Stand.TheVariants.{Behind, Ended}
-use Rattle.branch_bound.specs.Guided.{stand}
-use Rattle.branch_bound.specs.declared.side_visiting.Visit.TheVariants.{Closed, Open, Stuck}
 use Rattle.branch_bound.proofs.SideFindLemmas.{joined_by, opened_by_free}
 use Rattle.branch_bound.proofs.TrailLemmas.{turned, joined}
 use Rattle.branch_bound.proofs.side_searching.leave.Goals as goal
@@ -25,8 +19,8 @@ returns-in_ok-step_to-in-ToOne-clause-stands g c root start now behind =
     let marks = c.args.marks.now in
     let place = c.in-ToOne.place in
     let later = c.step_to.new.trail in
-    let there = subst (λ (last : OpenBranch). IsBehind number_itself (IsOpenedBy answers p on s) (FindsBy answers p on s) root start (last ∷ steps_on trail) (closed_on trail) marks now) c.in-ToOne.is behind in
-    turned number_itself (IsOpenedBy answers p on s) (FindsBy answers p on s) root start place (steps_on trail) (steps_on later) (closed_on trail) (closed_on later) marks (slice_set marks place Zero) now c.in_ok-step_to-in-ToOne.ensures.steps c.in_ok-step_to-in-ToOne.ensures.closed refl there
+    let there = subst (λ (last : OpenBranch). IsBehind number_itself (IsOpenedBy answers p on s) (FindsBy answers p on s) root start (last ∷ steps_on trail) (nodes_on trail) marks now) c.in-ToOne.is behind in
+    turned number_itself (IsOpenedBy answers p on s) (FindsBy answers p on s) root start place (steps_on trail) (steps_on later) (nodes_on trail) (nodes_on later) marks (slice_set marks place Zero) now c.in_ok-step_to-in-ToOne.ensures.steps c.in_ok-step_to-in-ToOne.ensures.closed refl there
 
 pub returns-in_ok-join-in-ToZero-clause-stands : goal.returns-in_ok-join-in-ToZero-clause-stands
 returns-in_ok-join-in-ToZero-clause-stands g c root start now behind =
@@ -38,5 +32,5 @@ returns-in_ok-join-in-ToZero-clause-stands g c root start now behind =
     let marks = c.args.marks.now in
     let place = c.in-ToZero.place in
     let later = c.join.new.trail in
-    let there = subst (λ (last : OpenBranch). IsBehind number_itself (IsOpenedBy answers p on s) (FindsBy answers p on s) root start (last ∷ steps_on trail) (closed_on trail) marks now) c.in-ToZero.is behind in
-    joined number_itself (IsOpenedBy answers p on s) (FindsBy answers p on s) root start (joined_by answers p on s c.args.task.now.side.now.bounds.few_vars) (opened_by_free answers p on s) place (steps_on trail) (steps_on later) (closed_on trail) (closed_on later) marks (slice_set marks place Free) now c.in_ok-join-in-ToZero.ensures.steps refl c.in_ok-join-in-ToZero.ensures.closed there
+    let there = subst (λ (last : OpenBranch). IsBehind number_itself (IsOpenedBy answers p on s) (FindsBy answers p on s) root start (last ∷ steps_on trail) (nodes_on trail) marks now) c.in-ToZero.is behind in
+    joined number_itself (IsOpenedBy answers p on s) (FindsBy answers p on s) root start (joined_by answers p on s c.args.task.now.side.now.bounds.few_vars) (opened_by_free answers p on s) place (steps_on trail) (steps_on later) (nodes_on trail) (nodes_on later) marks (slice_set marks place Free) now c.in_ok-join-in-ToZero.ensures.steps refl c.in_ok-join-in-ToZero.ensures.closed there

@@ -3,15 +3,10 @@ use Rattle.std.specs.List.{count_by}
 use Rattle.certificate_checker.specs.Fixings.{is_free}
 use Rattle.placement_programme.specs.Views.{plain_side, plain_programme}
 use Rattle.certificate_checker.specs.Views.{plain_tree}
-use Rattle.branch_bound.specs.SideStands.{number_itself, IsOpenedBy, FindsBy, SideStands, side_ahead, is_side_ended}
-use Rattle.branch_bound.specs.Trails.{steps_on, closed_on, IsBehind, IsWhole}
-use Rattle.branch_bound.specs.declared.open_branches.OpenBranch.{OpenBranch}
-use Rattle.branch_bound.specs.declared.side_incumbents.Incumbent.{Incumbent}
-use Rattle.branch_bound.specs.declared.side_stands.Stand.{Stand}
-use Rattle.branch_bound.specs.declared.side_stands.Stand.TheVariants.{Behind, Ended}
+use Rattle.branch_bound.specs.SideStands.{number_itself, IsOpenedBy, FindsBy}
+use Rattle.branch_bound.specs.Trails.{steps_on, nodes_on}
 use Rattle.branch_bound.specs.Guided.{stand, Searches}
-use Rattle.branch_bound.specs.declared.side_visiting.Visit.TheVariants.{Closed, Open, Stuck}
-use Rattle.branch_bound.proofs.SideFindLemmas.{beside, can_go_on, shown_levels, some_same}
+use Rattle.branch_bound.proofs.SideFindLemmas.{beside, can_go_on, whole_side, shown_levels, some_same}
 use Rattle.branch_bound.proofs.TrailLemmas.{begins}
 use Rattle.branch_bound.proofs.side_searching.search.Goals as goal
 
@@ -29,7 +24,7 @@ loop-guide-init g c =
     let start = beside c.args.guide.now c.args.best.now in
     let trail = c.first_trail-trail.result in
     record {
-      stands = begins number_itself (IsOpenedBy answers p on s) (FindsBy answers p on s) root start (steps_on trail) (closed_on trail) c.first_trail-trail.ensures.steps c.first_trail-trail.ensures.closed;
+      stands = begins number_itself (IsOpenedBy answers p on s) (FindsBy answers p on s) root start (steps_on trail) (nodes_on trail) c.first_trail-trail.ensures.steps c.first_trail-trail.ensures.closed;
       ready = c.requires.ready;
     }
 
@@ -39,6 +34,10 @@ loop-guide-preserved g c =
       stands = c.in_ok-at.ensures.stands c.args.marks.now (beside c.args.guide.now c.args.best.now) c.loop-guide.invariant.stands;
       ready = c.in_ok-at.ensures.ready;
     }
+
+pub ended_tree-requires-clause-whole : goal.ended_tree-requires-clause-whole
+ended_tree-requires-clause-whole g c =
+    whole_side g.G.Guide.answers (plain_programme c.args.task.now.programme.now) c.args.task.now.on (plain_side c.args.task.now.side.now) c.args.marks.now (beside c.args.guide.now c.args.best.now) c.loop-guide.trail c.loop-guide.marks (beside c.loop-guide.guide c.loop-guide.best) c.loop-guide.at c.loop-guide.invariant.stands
 
 pub returns-clause-kept : goal.returns-clause-kept
 returns-clause-kept g c =
