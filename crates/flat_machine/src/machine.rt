@@ -20,6 +20,9 @@ use paged_store::ByteStore;
 use rv32im::decode;
 use std::alloc::{AllocError, Global};
 
+/// How many decoded instructions a run keeps: those of 256 KiB of code.
+const RUN_SLOTS: usize = 65536;
+
 /// An RV32IM machine with one hart, a flat memory and calls to read, write and exit.
 ///
 /// Mapped are the ranges of its board. Its bytes are in a store of any kind.
@@ -129,8 +132,8 @@ impl<S: ByteStore> Flat<S> {
         if n == 0 {
             return Ok(self.outcome);
         }
-        let mut known = nothing_known(*self.output.allocator(), 65536)?;
-        self.run_knowing::<65536>(n, &mut known)?;
+        let mut known = nothing_known(*self.output.allocator(), RUN_SLOTS)?;
+        self.run_knowing::<RUN_SLOTS>(n, &mut known)?;
         Ok(self.outcome)
     }
 
