@@ -2,7 +2,7 @@ ghost use Rattle.certificate_checker.specs.Rooms.{RoomFits};
 
 use crate::certificates::{tell_bytes, tell_searched};
 use crate::reading::small_number;
-use crate::solving::{tell_full_side, tell_solution, tell_value};
+use crate::solving::{tell_solution, tell_value};
 use anyhow::{Context, Result, bail};
 use branch_bound::fill;
 use certificate_checker::Room;
@@ -21,8 +21,8 @@ fn choice(alloc: Global, words: &str) -> Result<Choice> {
     })
 }
 
-/// Answers a question: `solve NODES`, `choose NODES`, `trees NODES`, `search NODES`, `fill`, `value on|off NUMBERS`,
-/// `check BYTES` or `full ROW`.
+/// Answers a question: `solve NODES`, `choose NODES`, `trees NODES`, `search NODES`, `fill`, `value on|off NUMBERS`
+/// or `check BYTES`.
 fn tell_answer(
     rt: &(impl Print + AllocGlobal),
     p: &Programme,
@@ -38,7 +38,6 @@ fn tell_answer(
         "search" => tell_searched(rt, p, small_number(words)?),
         "value" => tell_value(rt, p, &choice(rt.alloc(), words)?),
         "check" => tell_bytes(rt, words, p, room),
-        "full" => tell_full_side(rt, small_number(words)?),
         "fill" => {
             let filled = fill(rt.alloc(), p)?;
             println!(rt; "filled: {:?}", filled.take)?;

@@ -1,9 +1,7 @@
 use anyhow::{Context, Result, bail};
 use branch_bound::{Found, Status, solve};
 use certificate_checker::{Tree, accepted};
-use placement_programme::{
-    Choice, FullSide, FullVar, Programme, VarName, energy, feasible, gain_of,
-};
+use placement_programme::{Choice, Programme, energy, feasible, gain_of};
 use shelf_io::NoProgress;
 use std::alloc::Global;
 
@@ -84,21 +82,5 @@ pub(crate) fn tell_value(rt: &impl Print, p: &Programme, choice: &Choice) -> Res
         "on {on} {take:?}: gain {gain}, energy {}",
         energy(p, choice)
     )?;
-    Ok(())
-}
-
-/// Tells whether a side with one row, of one candidate that loses 7 and weighs 1 in a row, is within the bounds.
-pub(crate) fn tell_full_side(rt: &(impl Print + AllocGlobal), row: u64) -> Result<()> {
-    let alloc = rt.alloc();
-    let row = u32::try_from(row).context("a row is too large")?;
-    let candidate = FullVar {
-        name: VarName::StaticCode { first: 0, last: 0 },
-        gain: -7,
-        weights: vec![in alloc; (row, 1u64)]?,
-    };
-    let rows = vec![in alloc; 10u64]?;
-    let vars = vec![in alloc; candidate]?;
-    let within = FullSide::of(3, rows, vars).is_some();
-    println!(rt; "a candidate in row {row} of 1: {within}")?;
     Ok(())
 }
