@@ -13,7 +13,7 @@ newer_than_unproved() { (cd "$top" && find crates crates.txt -name out -prune -o
 keep_program() {
     local began=$SECONDS said=$SECONDS found
     while kill -0 "$1" 2>/dev/null; do
-        [ -e "$unproved/module.bc" ] || find "$2" -name module.bc -exec ln {} "$unproved/module.bc" \; -quit 2>/dev/null
+        [ -e "$unproved/module.bc" ] || find "$2" -name module.bc -size +100k -exec ln {} "$unproved/module.bc" \; -quit 2>/dev/null
         found=$(find "$2" -type f -perm -100 -size +1000k -print -quit 2>/dev/null)
         if [ -n "$found" ] && [ ! -e "$unproved/kept" ] && ln "$found" "$unproved/kept" 2>/dev/null; then
             timeout 60 sh -c ": >'$unproved/pipe'" &
