@@ -57,7 +57,7 @@ rows_before low high (m ∷ ms) (suc i) d rows inside =
     let later = row_at_least (suc (row_of m)) high ms i d rows.2 within in
     (rows.0, omega (arith, later), rows_before (suc (row_of m)) high ms i d rows.2 within)
 
-pub loaded_none : (s : PlainSide) (prices : List ℕ) → ((j : ℕ) → slice_index prices j ≡ 0) → IsLoaded s prices 0 0 []
+pub loaded_none : (s : PlainSide) (prices : ℕ → ℕ) → ((j : ℕ) → prices j ≡ 0) → IsLoaded s prices 0 0 []
 loaded_none s prices zeroes = record {
   ascending = tt;
   tight = λ high all. omega arith;
@@ -70,7 +70,7 @@ loaded_none s prices zeroes = record {
 }
 
 -- a row that there isn't
-pub loaded_past : (s : PlainSide) (prices : List ℕ) (row_end bound row m next : ℕ) (ms : List (ℕ × ℕ)) → IsLoaded s prices row_end bound ms → row_end ≤ row → length s.rows ≤ row → next ≡ row + 1 → IsLoaded s prices next bound (ms ++ (row, m) ∷ [])
+pub loaded_past : (s : PlainSide) (prices : ℕ → ℕ) (row_end bound row m next : ℕ) (ms : List (ℕ × ℕ)) → IsLoaded s prices row_end bound ms → row_end ≤ row → length s.rows ≤ row → next ≡ row + 1 → IsLoaded s prices next bound (ms ++ (row, m) ∷ [])
 loaded_past s prices row_end bound row m next ms loaded past out is =
     let small = loaded.small in
     let most = loaded.most in
@@ -92,7 +92,7 @@ price_more s ms row m j =
     omega (arith, added, one)
 
 -- a row that there is, whose weights are added to the prices
-pub loaded_here : (s : PlainSide) (prices new : List ℕ) (entries : List (ℕ × ℕ)) (row_end bound row m next more : ℕ) (ms : List (ℕ × ℕ)) → IsLoaded s prices row_end bound ms → IsRowOf s.vars (length s.vars) row entries → ((j : ℕ) → slice_index new j ≡ slice_index prices j + m * weight_in entries j) → m < 2 ^ 64 → row_end ≤ row → row < length s.rows → next ≡ row + 1 → more ≡ bound + m * slice_index s.rows row → m * slice_index s.rows row < 2 ^ 96 → IsLoaded s new next more (ms ++ (row, m) ∷ [])
+pub loaded_here : (s : PlainSide) (prices new : ℕ → ℕ) (entries : List (ℕ × ℕ)) (row_end bound row m next more : ℕ) (ms : List (ℕ × ℕ)) → IsLoaded s prices row_end bound ms → IsRowOf s.vars (length s.vars) row entries → ((j : ℕ) → new j ≡ prices j + m * weight_in entries j) → m < 2 ^ 64 → row_end ≤ row → row < length s.rows → next ≡ row + 1 → more ≡ bound + m * slice_index s.rows row → m * slice_index s.rows row < 2 ^ 96 → IsLoaded s new next more (ms ++ (row, m) ∷ [])
 loaded_here s prices new entries row_end bound row m next more ms loaded here added few past inside is is_more fits =
     let small = loaded.small in
     let each : (j : ℕ) → m * weight_in entries j ≤ 2 ^ 96 =
@@ -100,7 +100,7 @@ loaded_here s prices new entries row_end bound row m next more ms loaded here ad
     let weight = weight_small (2 ^ 32) entries j (omega arith) here.weights.small in
     let most : m * weight_in entries j ≤ 2 ^ 64 * 2 ^ 32 = product_small m (weight_in entries j) (2 ^ 64) (2 ^ 32) (omega (arith, few)) (omega (arith, weight)) in
     omega (arith, most) in
-    let values : row_end ≤ length s.rows → (j : ℕ) → j < length s.vars → slice_index new j ≡ price s (ms ++ (row, m) ∷ []) j =
+    let values : row_end ≤ length s.rows → (j : ℕ) → j < length s.vars → new j ≡ price s (ms ++ (row, m) ∷ []) j =
     λ within j below.
     let so_far = loaded.values within j below in
     let grown = added j in

@@ -1,11 +1,11 @@
 -- A tree and the list of its nodes.
-use Rattle.std.proofs.Common.{◌≡◌, ◌∙◌, ℕ, zero, suc, List, [], ◌∷◌, ◌++◌, map, length, Option, Some, None, refl, sym, ap, subst, append_assoc, arith}
+use Rattle.std.proofs.Common.{◌≡◌, ◌∙◌, ℕ, zero, suc, List, [], ◌∷◌, ◌++◌, map, length, Option, Some, None, refl, sym, ap, append_assoc, arith}
 use Rattle.std.specs.List.{flat_map}
 use Rattle.std.proofs.lemmas.Grind.{flat_map-append}
 use Rattle.std.proofs.lemmas.List.Folds.{flat_map-map}
 use Rattle.std.proofs.lemmas.List.Concat.{flat_map-cons}
 use Rattle.certificate_checker.specs.Nodes.{PlainTree, branch, over, dual, leaf}
-use Rattle.certificate_checker.specs.NodeLists.{node_tree, PlainNode, branch_node, over_node, dual_node, leaf_node, nodes_of, first_tree, other_trees, with_node, trees_of, tree_of, one_more, one_of_two, tree_count}
+use Rattle.certificate_checker.specs.NodeLists.{node_tree, PlainNode, branch_node, over_node, dual_node, leaf_node, nodes_of, first_tree, with_node, trees_of, tree_of, one_more, one_of_two, tree_count}
 use Rattle.certificate_checker.specs.NodeViews.{plain_node}
 use Rattle.certificate_checker.specs.Loading.{IsSingle}
 use Rattle.certificate_checker.specs.declared.nodes.TreeNode.{TreeNode}

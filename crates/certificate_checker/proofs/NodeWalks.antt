@@ -1,12 +1,12 @@
 -- The walk over the nodes of a tree.
-use Rattle.std.proofs.Common.{◌≡◌, ◌∙◌, ℕ, suc, ◌+◌, List, [], ◌∷◌, ◌++◌, Ok, refl, sym, ap, subst, append_assoc, arith}
+use Rattle.std.proofs.Common.{◌≡◌, ◌∙◌, ℕ, ◌+◌, List, [], ◌∷◌, ◌++◌, Ok, sym, subst, append_assoc}
 use Rattle.placement_programme.specs.Plain.{PlainSide}
-use Rattle.certificate_checker.specs.Nodes.{PlainTree, branch, over, dual, leaf, size}
+use Rattle.certificate_checker.specs.Nodes.{PlainTree, branch, over, dual, leaf}
 use Rattle.certificate_checker.specs.NodeLists.{PlainNode, branch_node, over_node, dual_node, leaf_node, nodes_of, node_tree}
 use Rattle.certificate_checker.specs.NodeViews.{plain_node}
 use Rattle.certificate_checker.specs.declared.nodes.TreeNode.{TreeNode}
 use Rattle.certificate_checker.specs.declared.nodes.TreeNode.TheVariants.{Branch, Over, Dual, Leaf}
-use Rattle.certificate_checker.specs.Rules.{KeepsRule, Holds}
+use Rattle.certificate_checker.specs.Rules.{KeepsRule}
 use Rattle.certificate_checker.specs.Shows.{in_32_bits}
 use Rattle.certificate_checker.specs.Walks.{Walks}
 use Rattle.certificate_checker.specs.declared.fixings.Fixing.{Fixing}

@@ -1,5 +1,5 @@
 -- A walk over the text of a tree.
-use Rattle.std.proofs.Common.{◌≡◌, ◌∙◌, ◌↔◌, IsTrue, ℕ, zero, suc, ◌-◌, ◌≤◌, Bool, List, [], ◌∷◌, length, slice_index, Ok, Err, refl, sym, ap, arith}
+use Rattle.std.proofs.Common.{◌≡◌, ◌∙◌, ◌↔◌, IsTrue, ℕ, zero, suc, ◌-◌, ◌≤◌, Bool, List, [], ◌∷◌, length, Ok, Err, refl, sym, ap, arith}
 use Rattle.placement_programme.specs.Plain.{PlainSide}
 use Rattle.placement_programme.proofs.RowLemmas.{rows_higher}
 use Rattle.certificate_checker.specs.declared.fault.CertFault.{CertFault}
@@ -25,9 +25,9 @@ unfolding tree_at
 branch_read total levels bytes var r0 l r1 r r2 a b c = rw (a, b, c) refl
 
 -- a dual node's rule, by the prices that its rows make and their reach
-pub listed_tested : (s : PlainSide) (best : ℕ) (marks : List Fixing) (prices : List ℕ) (scale row_end total : ℕ) (ms : List (ℕ × ℕ)) (b : Bool) → IsLoaded s prices row_end total ms → row_end ≤ length s.rows → 1 ≤ scale → scale ≤ 65536 → (IsTrue b ↔ SumsHold s best marks scale total (λ j. slice_index prices j)) → (IsTrue b ↔ DualHolds s best marks scale ms)
+pub listed_tested : (s : PlainSide) (best : ℕ) (marks : List Fixing) (prices : ℕ → ℕ) (scale row_end total : ℕ) (ms : List (ℕ × ℕ)) (b : Bool) → IsLoaded s prices row_end total ms → row_end ≤ length s.rows → 1 ≤ scale → scale ≤ 65536 → (IsTrue b ↔ SumsHold s best marks scale total prices) → (IsTrue b ↔ DualHolds s best marks scale ms)
 listed_tested s best marks prices scale row_end total ms b loaded within least most test =
-    dual_tested s best marks scale total (λ j. slice_index prices j) ms b (rows_higher 0 row_end (length s.rows) ms within loaded.ascending) (loaded.values within) least most (loaded.bound within) test
+    dual_tested s best marks scale total prices ms b (rows_higher 0 row_end (length s.rows) ms within loaded.ascending) (loaded.values within) least most (loaded.bound within) test
 
 -- a number is no less than the least
 pub number_from : (part : Part) (least most total : ℕ) (bytes : List ℕ) (n : ℕ) (rest : List ℕ) → number_in part least most total bytes ≡ Ok (n, rest) → least ≤ n

@@ -4,6 +4,7 @@ use Rattle.std.specs.Borrow.{Bor}
 use Rattle.std.specs.List.{sum_by}
 use Rattle.placement_programme.specs.Plain.{PlainSide}
 use Rattle.placement_programme.specs.Bounds.{RowsWithin, row_of, value_of}
+use Rattle.certificate_checker.specs.Prices.{credits}
 use Rattle.certificate_checker.specs.Nodes.{PlainTree, branch, over, dual, leaf}
 use Rattle.certificate_checker.specs.Reading.{cut_off}
 use Rattle.certificate_checker.specs.Rules.{price}
@@ -15,20 +16,20 @@ use Rattle.certificate_checker.specs.declared.loading.Loaded.{Loaded}
 use Rattle.certificate_checker.specs.declared.fixings.Fixing.{Fixing}
 
 -- `row_end` is the least number above all rows; where the side has these rows, each variable has its price
-pub record IsLoaded (s : PlainSide) (prices : List ℕ) (row_end total : ℕ) (ms : List (ℕ × ℕ)) : Type 0 where
+pub record IsLoaded (s : PlainSide) (given : ℕ → ℕ) (row_end total : ℕ) (ms : List (ℕ × ℕ)) : Type 0 where
   pub ascending : RowsWithin 0 row_end ms
   pub tight : (high : ℕ) → RowsWithin 0 high ms → row_end ≤ high
-  pub values : row_end ≤ length s.rows → (j : ℕ) → j < length s.vars → slice_index prices j ≡ price s ms j
+  pub values : row_end ≤ length s.rows → (j : ℕ) → j < length s.vars → given j ≡ price s ms j
   pub bound : row_end ≤ length s.rows → total ≡ sum_by (λ m. value_of m * slice_index s.rows (row_of m)) ms
   pub small : total ≤ row_end * 2 ^ 96
   pub most : total ≤ length s.rows * 2 ^ 96
-  pub low : (j : ℕ) → slice_index prices j ≤ row_end * 2 ^ 96
-  pub lowest : (j : ℕ) → slice_index prices j ≤ length s.rows * 2 ^ 96
+  pub low : (j : ℕ) → given j ≤ row_end * 2 ^ 96
+  pub lowest : (j : ℕ) → given j ≤ length s.rows * 2 ^ 96
 
-abbrev pub Loads : PlainSide → List ℕ → Result (Loaded × Bor (List ℕ)) CertFault → Result (List (ℕ × ℕ) × List ℕ) CertFault → Type 0
-Loads s prices (Ok x) read =
-    (ms : List (ℕ × ℕ)) × ((read ≡ Ok (ms, x.1.now)) × IsLoaded s prices x.0.row_end x.0.bound ms)
-Loads s prices (Err e) read = read ≡ Err e
+abbrev pub Loads : PlainSide → List Fixing → ℕ → (ℕ → ℕ) → Result (Loaded × Bor (List ℕ)) CertFault → Result (List (ℕ × ℕ) × List ℕ) CertFault → Type 0
+Loads s marks scale given (Ok x) read =
+    (ms : List (ℕ × ℕ)) × ((read ≡ Ok (ms, x.1.now)) × IsLoaded s given x.0.row_end x.0.bound ms × (x.0.credit ≡ credits s marks scale given))
+Loads s marks scale given (Err e) read = read ≡ Err e
 
 -- a tree that is one node
 abbrev pub IsSingle : PlainTree → Type 0

@@ -1,4 +1,4 @@
-ghost use Rattle.std.specs.Prelude.{◌≡◌, ◌^◌, ◌<◌, ◌≤◌, map, length, slice_index};
+ghost use Rattle.std.specs.Prelude.{◌≡◌, ◌*◌, ◌^◌, ◌<◌, ◌≤◌, map, length, slice_index};
 ghost use Rattle.placement_programme.specs.{Plain.{plain_var}, Bounds.{AreWeights}, Programme.{gain_at, weights_at, weight_at}, Views.{plain_side}};
 
 use placement_programme::{Side, Var, weight_of};
@@ -47,6 +47,15 @@ pub fn gain_of_var(side: &Side, number: usize) -> u128
     ensures { result ≡ gain_at (plain_side side.now).vars number }
 {
     gain_in(&side.vars, number)
+}
+
+/// The gain of a variable, times the scale.
+pub(crate) fn scaled_gain(side: &Side, scale: u32, number: usize) -> u128
+    requires number { number < length (plain_side side.now).vars }
+    requires scale { scale ≤ 65536 }
+    ensures { result ≡ scale * gain_at (plain_side side.now).vars number }
+{
+    u128::from(scale) * gain_of_var(side, number)
 }
 
 /// The weights of a variable.

@@ -1,40 +1,35 @@
-ghost use Rattle.std.specs.Prelude.{◌≡◌, ℕ, ◌+◌, ◌*◌, ◌^◌, ◌<◌, ◌≤◌, length, slice_index};
-ghost use Rattle.placement_programme.specs.{Bounds.{AreWeights}, Programme.{weight_in}, Views.{plain_side}};
-ghost use Rattle.certificate_checker.specs.Prices.{price_in, AreOfSide};
+ghost use Rattle.std.specs.Prelude.{◌≡◌, ◌^◌, ◌<◌, length};
+ghost use Rattle.placement_programme.specs.{Bounds.{RowsWithin}, Views.{plain_side}};
+ghost use Rattle.certificate_checker.specs.Prices.{price_in, priced_at};
 
 use crate::columns::weights_of_var;
-use crate::multipliers::{priced, product};
+use crate::multipliers::priced;
 use placement_programme::Side;
 
-/// The prices of a side's variables: their weights, each times the multiplier of its row.
-#[derive(Drop)]
-pub(crate) enum Prices<'a> {
-    /// By rows, ascending, each with its multiplier.
-    Sorted(&'a [(u32, u64)]),
-    /// A price for each variable.
-    Listed(&'a [u128]),
+/// A price that counts for its stamp alone: so the prices of one node need no clearing for the next.
+#[derive(Clone, Copy, Drop)]
+pub struct Priced {
+    /// How long the text is behind the tag of the node.
+    pub stamp: usize,
+    /// In the units of the gains, times the node's scale.
+    pub price: u128,
 }
 
-/// The price of a variable.
-pub(crate) fn price_of(side: &Side, prices: &Prices, number: usize) -> u128
+/// The price of a variable by multipliers of rows, which ascend.
+pub(crate) fn price_of(side: &Side, multipliers: &[(u32, u64)], number: usize) -> u128
     requires number { number < length (plain_side side.now).vars }
-    requires prices { AreOfSide (plain_side side.now) prices.now }
-    ensures value { result ≡ price_in (plain_side side.now) prices.now number }
+    requires rows { RowsWithin 0 (length (plain_side side.now).rows) multipliers.now }
+    ensures value { result ≡ price_in (plain_side side.now) multipliers.now number }
     ensures small { result < 2 ^ 113 }
 {
-    match prices {
-        Prices::Sorted(multipliers) => priced(multipliers, weights_of_var(side, number)),
-        Prices::Listed(listed) => listed[number],
-    }
+    priced(multipliers, weights_of_var(side, number))
 }
 
-/// Adds to the prices what variables weigh in a row, times its multiplier.
-pub(crate) fn add_priced(prices: &mut [u128], entries: &[(u32, u64)], multiplier: u64)
-    requires weights { (count : ℕ) × (AreWeights count entries.now × (count ≤ length prices.old)) }
-    requires small { (j : ℕ) → slice_index prices.old j ≤ 2 ^ 120 }
-    ensures { (j : ℕ) → slice_index prices.new j ≡ slice_index prices.old j + multiplier * weight_in entries.now j }
+/// The price of a variable that counts for a stamp.
+pub(crate) fn price_now(prices: &[Priced], stamp: usize, number: usize) -> u128
+    requires { number < length prices.now }
+    ensures { result ≡ priced_at stamp prices.now number }
 {
-    for entry in entries {
-        prices[entry.0 as usize] += product(multiplier, entry.1);
-    }
+    let found = prices[number];
+    if found.stamp == stamp { found.price } else { 0 }
 }

@@ -4,6 +4,7 @@ ghost use Rattle.certificate_checker.specs.{RowWise.{rows_of, IsOfSide}, Tallies
 
 use crate::assignments::Assignment;
 use crate::fixings::free_marks;
+use crate::prices::Priced;
 use crate::row_wise::RowWise;
 use crate::steps::PathStep;
 use placement_programme::{Choice, Programme, Side};
@@ -19,7 +20,7 @@ pub struct Room {
     /// A step for each depth, 4,097, with which the way from the root to a node is told.
     pub path: Vec<PathStep>,
     /// A price for each variable of the longer side.
-    pub prices: Vec<u128>,
+    pub prices: Vec<Priced>,
     /// The weights of the side without overlay, by rows.
     pub off_rows: RowWise,
     /// Those of the side with overlay, where there is one.
@@ -61,10 +62,10 @@ fn free_overlay(alloc: Global, p: &Programme) -> Result<Assignment, AllocError>
     }
 }
 
-fn prices_of(alloc: Global, count: usize) -> Result<Vec<u128>, AllocError>
+fn prices_of(alloc: Global, count: usize) -> Result<Vec<Priced>, AllocError>
     ensures { IfOk result (λ v. length v.items ≡ count) }
 {
-    vec![in alloc; 0u128; count]
+    vec![in alloc; Priced { stamp: 0, price: 0 }; count]
 }
 
 /// The weights of the side with overlay by rows, none where there is no such side.

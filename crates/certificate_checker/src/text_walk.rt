@@ -1,12 +1,14 @@
-ghost use Rattle.std.specs.Prelude.{◌≡◌, ℕ, suc, ◌+◌, ◌^◌, ◌<◌, ◌≤◌, ◌↔◌, IsTrue, false, List, [], ◌∷◌, length, IfOk};
+ghost use Rattle.std.specs.Prelude.{◌≡◌, ℕ, suc, ◌+◌, ◌-◌, ◌^◌, ◌<◌, ◌≤◌, ◌↔◌, IsTrue, false, List, [], ◌∷◌, length, IfOk};
 ghost use Rattle.placement_programme.specs.{Plain.{PlainSide}, Views.{plain_side}};
-ghost use Rattle.certificate_checker.specs.{Nodes.{PlainTree}, Rules.{KeepsRule}, Shows.{all_free}, Tallies.{AreTallies, IsAssignmentOf}, Walks.{Walks}, declared.fixings.Fixing.{Fixing}, Reading.{over_at, dual_at, tree_at}, RowWise.{rows_of, IsOfSide}, Loading.{IsSingle, SplitsFirst, WalksRead, WalksBehind, TreeWalked}, Ways.{text_of, first_answer, IsBefore, Stands, Advances, CanAdvance, left}};
+ghost use Rattle.certificate_checker.specs.{Nodes.{PlainTree}, Rules.{KeepsRule}, Shows.{all_free}, Prices.{AreFrom}, Tallies.{AreTallies, IsAssignmentOf}, Walks.{Walks}, declared.fixings.Fixing.{Fixing}, Reading.{over_at, dual_at, tree_at}, RowWise.{rows_of, IsOfSide}, Loading.{IsSingle, SplitsFirst, WalksRead, WalksBehind, TreeWalked}, Ways.{text_of, first_answer, IsBefore, Stands, Advances, CanAdvance, left}};
 
 use crate::assignments::Assignment;
+use crate::crediting::Pricing;
 use crate::duals::loaded_holds;
 use crate::fault::CertFault;
 use crate::fields::{Part, cut_off, number_in, place, small_number};
 use crate::loading::load_entries;
+use crate::prices::Priced;
 use crate::reading::below_all;
 use crate::rules::{leaf_holds, over_holds};
 use crate::skipping::skip_single;
@@ -53,7 +55,7 @@ fn walk_over<'a>(
 fn walk_dual<'a>(
     task: &Task,
     assignment: &Assignment,
-    prices: &mut [u128],
+    prices: &mut [Priced],
     node: u32,
     depth: u32,
     bytes: &'a [u8],
@@ -62,17 +64,26 @@ fn walk_dual<'a>(
     requires tallies { AreTallies (plain_side task.now.side.now) assignment.now }
     requires by_row { IsOfSide (plain_side task.now.side.now) (rows_of task.now.by_row.now) }
     requires room { length (plain_side task.now.side.now).vars ≤ length prices.old }
-    ensures { WalksRead (plain_side task.now.side.now) task.now.best assignment.now.marks.items node depth result (dual_at task.now.total bytes.now) }
+    requires fresh { AreFrom (suc (length bytes.now)) prices.old }
+    ensures fresh { AreFrom (length bytes.now) prices.new }
+    ensures read { WalksRead (plain_side task.now.side.now) task.now.best assignment.now.marks.items node depth result (dual_at task.now.total bytes.now) }
 {
+    let stamp = bytes.len();
     let (scale, rest) = number_in(Part::Node, 1, 65536, task.total, bytes)?;
     let (count, rest) = small_number(Part::Node, 0, task.total, rest)?;
-    let (loaded, rest) = load_entries(task, prices, count, rest)?;
+    let pricing = Pricing {
+        side: task.side,
+        by_row: task.by_row,
+        marks: &assignment.marks,
+        scale: scale as u32,
+        stamp,
+    };
+    let (loaded, rest) = load_entries(&pricing, prices, task.total, count, rest)?;
     let holds = loaded_holds(
         task.side,
         task.best,
-        &assignment.marks,
-        prices,
         scale as u32,
+        assignment.bound,
         &loaded,
     );
     Ok((single(holds, node, depth), rest))
@@ -83,7 +94,7 @@ fn walk_dual<'a>(
 fn walk_single<'a>(
     task: &Task,
     assignment: &Assignment,
-    prices: &mut [u128],
+    prices: &mut [Priced],
     node: u32,
     depth: u32,
     bytes: &'a [u8],
@@ -92,8 +103,10 @@ fn walk_single<'a>(
     requires tallies { AreTallies (plain_side task.now.side.now) assignment.now }
     requires by_row { IsOfSide (plain_side task.now.side.now) (rows_of task.now.by_row.now) }
     requires room { length (plain_side task.now.side.now).vars ≤ length prices.old }
+    requires fresh { AreFrom (length bytes.now) prices.old }
     requires tag { (rest : List ℕ) → bytes.now ≡ 0 ∷ rest → ⊥ }
-    ensures { (levels : ℕ) → WalksRead (plain_side task.now.side.now) task.now.best assignment.now.marks.items node depth result (tree_at task.now.total (suc levels) bytes.now) }
+    ensures fresh { AreFrom (length bytes.now - 1) prices.new }
+    ensures read { (levels : ℕ) → WalksRead (plain_side task.now.side.now) task.now.best assignment.now.marks.items node depth result (tree_at task.now.total (suc levels) bytes.now) }
 {
     match bytes {
         [] => Err(cut_off(task.total)),
@@ -113,7 +126,7 @@ fn walk_single<'a>(
 fn answer_single<'a>(
     task: &Task,
     assignment: &Assignment,
-    prices: &mut [u128],
+    prices: &mut [Priced],
     so_far: Result<u32, Failing>,
     depth: u32,
     bytes: &'a [u8],
@@ -122,8 +135,10 @@ fn answer_single<'a>(
     requires tallies { AreTallies (plain_side task.now.side.now) assignment.now }
     requires by_row { IsOfSide (plain_side task.now.side.now) (rows_of task.now.by_row.now) }
     requires room { length (plain_side task.now.side.now).vars ≤ length prices.old }
+    requires fresh { AreFrom (length bytes.now) prices.old }
     requires tag { (rest : List ℕ) → bytes.now ≡ 0 ∷ rest → ⊥ }
-    ensures { (levels : ℕ) → WalksBehind (plain_side task.now.side.now) task.now.best assignment.now.marks.items so_far depth result (tree_at task.now.total (suc levels) bytes.now) }
+    ensures fresh { AreFrom (length bytes.now - 1) prices.new }
+    ensures read { (levels : ℕ) → WalksBehind (plain_side task.now.side.now) task.now.best assignment.now.marks.items so_far depth result (tree_at task.now.total (suc levels) bytes.now) }
 {
     match so_far {
         Err(failing) => match skip_single(task.total, bytes) {
@@ -158,6 +173,7 @@ fn read_branch<'a>(
     ensures reads { (levels : ℕ) (all : List ℕ) → progress.depth < levels
         → IsBefore (text_of (plain_side task.now.side.now) task.now.judged task.now.best task.now.total levels all) path.old assignment.old.marks.items progress.depth progress.so_far (0 ∷ bytes.now)
         → Advances (text_of (plain_side task.now.side.now) task.now.judged task.now.best task.now.total levels all) path.new assignment.new.marks.items result }
+    ensures shorter { IfOk result (λ r. length r.1.now ≤ length bytes.now) }
     ensures left { IfOk result (λ r. left r.0 r.1.now < left progress (0 ∷ bytes.now)) }
     ensures depth { (levels : ℕ) → progress.depth < levels → IfOk result (λ r. r.0.depth ≤ levels) }
 {
@@ -177,7 +193,7 @@ fn read_single<'a>(
     task: &Task,
     assignment: &Assignment,
     path: &[PathStep],
-    prices: &mut [u128],
+    prices: &mut [Priced],
     progress: Progress,
     bytes: &'a [u8],
 ) -> Result<(Progress, &'a [u8]), CertFault>
@@ -185,7 +201,9 @@ fn read_single<'a>(
     requires tallies { AreTallies (plain_side task.now.side.now) assignment.now }
     requires by_row { IsOfSide (plain_side task.now.side.now) (rows_of task.now.by_row.now) }
     requires room { length (plain_side task.now.side.now).vars ≤ length prices.old }
+    requires fresh { AreFrom (length bytes.now) prices.old }
     requires tag { (rest : List ℕ) → bytes.now ≡ 0 ∷ rest → ⊥ }
+    ensures fresh { IfOk result (λ r. AreFrom (length r.1.now) prices.new) }
     ensures reads { (levels : ℕ) (all : List ℕ) → progress.depth < levels
         → IsBefore (text_of (plain_side task.now.side.now) task.now.judged task.now.best task.now.total levels all) path.now assignment.now.marks.items progress.depth progress.so_far bytes.now
         → Advances (text_of (plain_side task.now.side.now) task.now.judged task.now.best task.now.total levels all) path.now assignment.now.marks.items result }
@@ -207,7 +225,7 @@ fn read_node<'a>(
     task: &Task,
     assignment: &mut Assignment,
     path: &mut [PathStep],
-    prices: &mut [u128],
+    prices: &mut [Priced],
     progress: Progress,
     bytes: &'a [u8],
 ) -> Result<(Progress, &'a [u8]), CertFault>
@@ -215,10 +233,12 @@ fn read_node<'a>(
     requires exact { IsAssignmentOf (plain_side task.now.side.now) assignment.old }
     requires by_row { IsOfSide (plain_side task.now.side.now) (rows_of task.now.by_row.now) }
     requires room { length (plain_side task.now.side.now).vars ≤ length prices.old }
+    requires fresh { AreFrom (length bytes.now) prices.old }
     requires levels { task.now.levels < 2 ^ 31 }
     requires inside { task.now.levels ≤ length path.old }
     requires depth { progress.depth ≤ task.now.levels }
     ensures exact { IsAssignmentOf (plain_side task.now.side.now) assignment.new }
+    ensures fresh { IfOk result (λ r. AreFrom (length r.1.now) prices.new) }
     ensures reads { (all : List ℕ) → IsBefore (text_of (plain_side task.now.side.now) task.now.judged task.now.best task.now.total task.now.levels all) path.old assignment.old.marks.items progress.depth progress.so_far bytes.now
         → Advances (text_of (plain_side task.now.side.now) task.now.judged task.now.best task.now.total task.now.levels all) path.new assignment.new.marks.items result }
     ensures left { progress.ended ≡ false → IfOk result (λ r. left r.0 r.1.now < left progress bytes.now) }
@@ -239,7 +259,7 @@ fn advance<'a>(
     task: &Task,
     assignment: &mut Assignment,
     path: &mut [PathStep],
-    prices: &mut [u128],
+    prices: &mut [Priced],
     progress: Progress,
     bytes: &'a [u8],
 ) -> Result<(Progress, &'a [u8]), CertFault>
@@ -247,11 +267,13 @@ fn advance<'a>(
     requires exact { IsAssignmentOf (plain_side task.now.side.now) assignment.old }
     requires by_row { IsOfSide (plain_side task.now.side.now) (rows_of task.now.by_row.now) }
     requires room { length (plain_side task.now.side.now).vars ≤ length prices.old }
+    requires fresh { AreFrom (length bytes.now) prices.old }
     requires levels { task.now.levels < 2 ^ 31 }
     requires inside { task.now.levels ≤ length path.old }
     requires depth { progress.depth ≤ task.now.levels }
     requires step { CanAdvance (plain_side task.now.side.now) path.old progress }
     ensures exact { IsAssignmentOf (plain_side task.now.side.now) assignment.new }
+    ensures fresh { IfOk result (λ r. AreFrom (length r.1.now) prices.new) }
     ensures reads { (all : List ℕ) → Stands (text_of (plain_side task.now.side.now) task.now.judged task.now.best task.now.total task.now.levels all) path.old assignment.old.marks.items progress bytes.now
         → Advances (text_of (plain_side task.now.side.now) task.now.judged task.now.best task.now.total task.now.levels all) path.new assignment.new.marks.items result }
     ensures left { IfOk result (λ r. left r.0 r.1.now < left progress bytes.now) }
@@ -279,7 +301,7 @@ pub(crate) fn walk_text<'a>(
     task: &Task,
     assignment: &mut Assignment,
     path: &mut [PathStep],
-    prices: &mut [u128],
+    prices: &mut [Priced],
     bytes: &'a [u8],
 ) -> Result<Walked<'a>, CertFault>
     requires best { task.now.best ≤ 2 ^ 104 }
@@ -287,6 +309,7 @@ pub(crate) fn walk_text<'a>(
     requires free { assignment.old.marks.items ≡ all_free (plain_side task.now.side.now) }
     requires by_row { IsOfSide (plain_side task.now.side.now) (rows_of task.now.by_row.now) }
     requires room { length (plain_side task.now.side.now).vars ≤ length prices.old }
+    requires fresh { AreFrom (length bytes.now) prices.old }
     requires levels { task.now.levels < 2 ^ 31 }
     requires inside { task.now.levels ≤ length path.old }
     ensures exact { IsAssignmentOf (plain_side task.now.side.now) assignment.new }

@@ -1,10 +1,9 @@
-use Rattle.std.proofs.Common.{◌≡◌, ◌∙◌, ◌⊎◌, inl, inr, suc, ◌-◌, List, ◌∷◌, ◌++◌, map, Result, Ok, Err, sym, ap, subst, arith}
-use Rattle.certificate_checker.specs.Nodes.{PlainTree, branch}
-use Rattle.certificate_checker.specs.NodeLists.{nodes_of, node_tree}
+use Rattle.std.proofs.Common.{◌≡◌, ◌∙◌, inl, inr, suc, ◌-◌, ◌∷◌, ◌++◌, map, Result, Ok, Err, sym, ap, subst, arith}
+use Rattle.certificate_checker.specs.Nodes.{branch}
+use Rattle.certificate_checker.specs.NodeLists.{node_tree}
 use Rattle.certificate_checker.specs.NodeViews.{plain_node}
 use Rattle.certificate_checker.specs.Reading.{Fails, tree_at}
 use Rattle.certificate_checker.specs.declared.fault.CertFault.{CertFault}
-use Rattle.certificate_checker.specs.declared.fault.CertFault.TheVariants.{Memory}
 use Rattle.certificate_checker.proofs.NodeLemmas.{single_node, branch_nodes}
 use Rattle.certificate_checker.proofs.StreamLemmas.{none_read, deep_read, var_broken, first_broken, second_broken, branch_read}
 use Rattle.certificate_checker.proofs.reading.+nodes_at.Goals as goal

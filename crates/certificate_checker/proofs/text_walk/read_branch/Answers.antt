@@ -23,3 +23,7 @@ pub returns-clause-left : goal.returns-clause-left
 returns-clause-left c =
     let shorter = number_shorter c.args.task.now.total c.args.bytes.now c.in_ok-var.var c.in_ok-var.rest.now (λ i. omega (arith, c.type_inv.bytes i)) c.in_ok-var.ensures in
     omega (arith, shorter)
+
+pub returns-clause-shorter : goal.returns-clause-shorter
+returns-clause-shorter c =
+    number_shorter c.args.task.now.total c.args.bytes.now c.in_ok-var.var c.in_ok-var.rest.now (λ i. omega (arith, c.type_inv.bytes i)) c.in_ok-var.ensures

@@ -11,6 +11,7 @@ loop-assignment-init c =
       stands = at_root (plain_side task.side.now) task.judged task.best task.total c.args.task.now.levels c.args.bytes.now c.args.path.now c.args.assignment.now.marks.items c.first_answer-so_far.result c.requires.free c.first_answer-so_far.ensures;
       depth = omega arith;
       exact = c.requires.exact;
+      fresh = c.requires.fresh;
     }
 
 pub advance-requires-clause-step : goal.advance-requires-clause-step
@@ -30,3 +31,6 @@ returns-clause-walked c =
     let done = c.is_done.ensures.0 (let ended = c.loop-assignment-test.false in cc) in
     walked x c.loop-assignment.path c.loop-assignment.assignment.marks.items progress.depth progress.so_far c.loop-assignment.rest.now done.1
     (subst (λ e. StandsAt x c.loop-assignment.path c.loop-assignment.assignment.marks.items progress.depth e progress.so_far c.loop-assignment.rest.now) done.0 c.loop-assignment.invariant.stands)
+
+pub advance-requires-clause-fresh : goal.advance-requires-clause-fresh
+advance-requires-clause-fresh c = c.loop-assignment.invariant.fresh

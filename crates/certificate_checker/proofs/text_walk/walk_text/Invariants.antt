@@ -1,5 +1,6 @@
-use Rattle.std.proofs.Common.{◌≤◌}
+use Rattle.std.proofs.Common.{◌≤◌, length}
 use Rattle.placement_programme.specs.Views.{plain_side}
+use Rattle.certificate_checker.specs.Prices.{AreFrom}
 use Rattle.certificate_checker.specs.Tallies.{IsAssignmentOf}
 use Rattle.certificate_checker.specs.Ways.{text_of, Stands, left}
 use Rattle.certificate_checker.proofs.text_walk.walk_text.Given as goal
@@ -9,6 +10,7 @@ invariant-loop-assignment l = record {
   stands : Stands (text_of (plain_side l.task.side.now) l.task.judged l.task.best l.task.total l.task.levels l.bytes) l.path l.assignment.marks.items l.progress l.rest;
   depth : l.progress.depth ≤ l.task.levels;
   exact : IsAssignmentOf (plain_side l.task.side.now) l.assignment;
+  fresh : AreFrom (length l.rest) l.prices;
 }
 
 abbrev pub decreases-loop-assignment : goal.decreases-loop-assignment

@@ -1,10 +1,9 @@
-use Rattle.std.proofs.Common.{◌≡◌, ◌∙◌, suc, ◌<◌, List, [], ◌∷◌, ◌++◌, map, length, Ok, slice_set, refl, sym, ap, subst, arith}
+use Rattle.std.proofs.Common.{◌≡◌, ◌∙◌, ◌∷◌, ◌++◌, map, Ok, sym, ap, subst, arith}
 use Rattle.placement_programme.specs.Views.{plain_side}
-use Rattle.certificate_checker.specs.NodeLists.{branch_node, nodes_of, node_tree}
+use Rattle.certificate_checker.specs.NodeLists.{nodes_of, node_tree}
 use Rattle.certificate_checker.specs.NodeViews.{plain_node}
 use Rattle.certificate_checker.specs.Rules.{BranchHolds, KeepsRule}
 use Rattle.certificate_checker.specs.Walks.{FailsIn, Walks}
-use Rattle.certificate_checker.specs.declared.fixings.Fixing.TheVariants.{Zero, One}
 use Rattle.certificate_checker.proofs.Failures.{number_here, root_fails, zero_fails, one_fails, both_hold, marks_one, marks_back}
 use Rattle.certificate_checker.proofs.NodeWalks.{has_branch, rule_of_root, single_walks, no_nodes, branch_of_plain}
 use Rattle.certificate_checker.proofs.walking.+walk.Goals as goal

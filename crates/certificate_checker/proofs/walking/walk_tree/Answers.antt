@@ -1,4 +1,4 @@
-use Rattle.std.proofs.Common.{◌≡◌, ◌∙◌, [], ◌++◌, map, sym, ap}
+use Rattle.std.proofs.Common.{◌∙◌, [], map, sym, ap}
 use Rattle.std.proofs.lemmas.List.{append-nil}
 use Rattle.certificate_checker.specs.NodeLists.{nodes_of}
 use Rattle.certificate_checker.specs.NodeViews.{plain_node}

@@ -1,7 +1,7 @@
 use Rattle.std.proofs.Common.{◌^◌, map, arith}
 use Rattle.placement_programme.specs.Plain.{plain_var}
 use Rattle.certificate_checker.proofs.Limits.{gain_small, product_small}
-use Rattle.certificate_checker.proofs.duals.scaled_gain.Goals as goal
+use Rattle.certificate_checker.proofs.columns.scaled_gain.Goals as goal
 
 pub overflow_mul-result : goal.overflow_mul-result
 overflow_mul-result c =
