@@ -61,7 +61,7 @@ tell_done() {
 
 # Copies what is said to the log, tells each crate that is done, and says at least every 20 seconds that work goes on.
 tell_progress() {
-    local line= part status name done=0 proved=0 all needed began=$SECONDS
+    local line= part status name told=' ' done=0 proved=0 all needed began=$SECONDS
     all=$(wc -l <"$build/crates.txt")
     needed=$(seconds_of $(cut -d: -f1 "$build/crates.txt"))
     say "$all crates are proved, which took $((needed / 60)) minutes of a processor on a slow, busy machine; there are $(nproc) here"
@@ -81,9 +81,12 @@ tell_progress() {
                 'rt: '*' proved' | 'rt: '*' is kept: '*)
                     line=${line#rt: }
                     name=${line%% *}
-                    done=$((done + 1))
-                    proved=$((proved + $(seconds_of "$name")))
-                    tell_done "$name"
+                    if [[ $told != *" $name "* ]]; then
+                        told+="$name "
+                        done=$((done + 1))
+                        proved=$((proved + $(seconds_of "$name")))
+                        tell_done "$name"
+                    fi
                     ;;
             esac
             line=
@@ -101,9 +104,31 @@ lanes() {
     echo $((memory < processors ? memory : processors))
 }
 
+# The crates that few others can be proved beside are those on top: they stand on `relink_core`.
+lower_crates() { awk -F: -v program="$crate" '$1 != program && $2 !~ / relink_core( |$)/ { print $1 }' "$build/crates.txt"; }
+
+# Whether `rt` keeps on this machine what it proves, so that a second run of it goes on from there.
+keeps_proofs() {
+    local kit kept
+    kit=$(dirname "$(rt doc)") && kept=$(dirname "$kit")/rattle-kept
+    rt --help | grep -q 'is kept beside the kit' && mkdir -p "$kept" 2>/dev/null && [ -O "$kept" ] && [ -w "$kept" ]
+}
+
+# Proves the lower crates side by side, and the upper ones behind them by as many jobs each as `rt` has memory for: told how many
+# crates to prove at a time, it gives each one job.
+prove() {
+    if [ -n "${RT_JOBS-}" ]; then
+        rt ci
+    elif keeps_proofs; then
+        RT_JOBS=$(lanes) rt ci $(lower_crates) && rt ci
+    else
+        RT_JOBS=$(lanes) rt ci
+    fi
+}
+
 build() {
     copy_sources || return
-    (set -o pipefail; cd "$build" && RT_JOBS=${RT_JOBS:-$(lanes)} rt ci 2>&1 </dev/null | tell_progress "$1") || return
+    (set -o pipefail; cd "$build" && prove 2>&1 </dev/null | tell_progress "$1") || return
     mkdir -p "$(dirname "$program")" && cp "$build/crates/$crate/out/$crate" "$program"
 }
 
