@@ -12,11 +12,11 @@ use Rattle.object_machine.specs.declared.events.Access.{Access}
 use Rattle.object_machine.specs.declared.events.Outcome.{Outcome}
 use Rattle.object_machine.specs.declared.events.Outcome.TheVariants.{GoesOn, Exited, Trapped, AddressFault}
 use Rattle.cell_values.specs.declared.values.Val.{Val}
-use Rattle.cell_values.specs.declared.values.Val.TheVariants.{Int, Addr}
 use Rattle.object_machine.specs.Places.{Where, InFixed, InObject, Nowhere, located, address_of}
 use Rattle.object_machine.specs.Program.{Program, Target}
 use Rattle.object_machine.specs.State.{SourceState, value}
 use Rattle.simulation.specs.Unnamed.{unnamed}
+use Rattle.simulation.proofs.Unnamed.{located_same, address_same}
 use Rattle.object_machine.specs.Step.{access_in, access_by, access_of, load_place, store_place}
 use Rattle.result_laws.specs.Walks.{accesses_at, word_accesses, unit_accesses}
 use Rattle.result_laws.proofs.UnitEvents.{accesses_first}
@@ -81,17 +81,8 @@ module _ (p : Program) where
   abbrev q : Program
   q = unnamed p
 
-  located_same : (width : ℕ) (x : Val) → located p width x ≡ located q width x
-  located_same width (Int a) = refl
-  located_same width (Addr o d) = refl
-  located_same width x = refl
-
-  address_same : (site : Option Target) (x : Val) (imm : ℤ) → address_of p site x imm ≡ address_of q site x imm
-  address_same None x imm = refl
-  address_same (Some t) x imm = refl
-
   place_same : (width : ℕ) (site : Option Target) (x : Val) (imm : ℤ) → located p width (address_of p site x imm) ≡ located q width (address_of q site x imm)
-  place_same width site x imm = located_same width (address_of p site x imm) ∙ ap (located q width) (address_same site x imm)
+  place_same width site x imm = located_same p width (address_of p site x imm) ∙ ap (located q width) (address_same p site x imm)
 
   by_same : (s : SourceState) (read : Option Instr) → access_by p s read ≡ access_by q s read
   by_same s (Some (Load kind rd rs1 imm)) = ap (λ (w : Where). access_in w false) (place_same (load_width kind) (p.site s.pc) (value s.regs rs1) imm)

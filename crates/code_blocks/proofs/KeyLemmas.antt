@@ -1,65 +1,26 @@
 -- The symbols of functions, and their keys.
-use Rattle.std.proofs.Common.{◌≡◌, ◌∙◌, ◌⊎◌, inl, inr, ℕ, zero, suc, ◌+◌, ◌*◌, ◌-◌, ◌%◌, ◌<◌, ◌≤◌, ◌==◌, nat_lt, Bool, true, ◌&&◌, ◌||◌, List, [], ◌∷◌, map, length, slice_index_or, Option, Some, None, refl, sym, ap, subst, arith, length-append}
+use Rattle.std.proofs.Common.{◌≡◌, ◌∙◌, ◌⊎◌, inl, inr, ℕ, zero, suc, ◌+◌, ◌*◌, ◌-◌, ◌%◌, ◌<◌, ◌==◌, nat_lt, Bool, true, ◌&&◌, ◌||◌, List, [], ◌∷◌, map, length, slice_index_or, refl, sym, ap, subst, arith}
 use Rattle.std.specs.List.{AllPairs}
-use Rattle.std.proofs.lemmas.Bool.{eqb-true, eq-eqb, ltb-true, leb-true, cases_lt}
+use Rattle.std.proofs.lemmas.Bool.{eqb-true, eq-eqb, ltb-true, cases_lt}
 use Rattle.std.proofs.lemmas.Bool.Decides.{nat_tests}
 use Rattle.std.proofs.lemmas.List.{length-map, get_or-map}
 use Rattle.std.proofs.lemmas.List.Kept.{AllPairs-from_increasing}
-use Rattle.list_checks.proofs.FirstLemmas.{both_none, holds}
+use Rattle.list_checks.proofs.FirstLemmas.{holds}
 use Rattle.list_checks.specs.Tests.{any_below, lies_in}
 use Rattle.list_checks.proofs.TestLemmas.{both, same_tests, any_found, any_at}
-use Rattle.elf_reader.specs.Layout.{section_header}
-use Rattle.elf_reader.specs.Sections.{symbol_table, symbol_count_of}
-use Rattle.elf_reader.specs.HeaderChecks.{header_fault}
-use Rattle.elf_reader.specs.ProgramHeaderChecks.{program_headers_fault}
-use Rattle.elf_reader.specs.SectionChecks.{sections_fault}
-use Rattle.elf_reader.specs.SymbolChecks.{one_table_fault, symbol_size_fault, shared_table_fault, symbol_strings_fault, symbol_limit_fault, found_table_fault, symbols_fault}
-use Rattle.elf_reader.specs.File.{PlainSection, PlainView, plain_section, plain_symbol, plain_view, symbol_of, symbols_below, symbols_in}
+use Rattle.elf_reader.specs.File.{PlainSection, PlainView, plain_section, plain_symbol, plain_view}
 use Rattle.elf_reader.specs.Loaded.{no_section, section_at}
 use Rattle.elf_reader.specs.declared.view.ElfView.{ElfView}
 use Rattle.loaded_file.specs.Code.{is_code_range}
 use Rattle.loaded_file.specs.Records.{symbol_at}
 use Rattle.loaded_file.specs.Read.{IsRead}
 use Rattle.loaded_file.proofs.WordLemmas.{range_ends, lies_to}
+use Rattle.loaded_file.proofs.SymbolCount.{symbols_few}
 use Rattle.code_blocks.specs.Early.{has}
 use Rattle.code_blocks.proofs.LeaderLemmas.{both_pass}
 use Rattle.code_blocks.specs.Functions.{lies_in_range, is_function, comes_before}
 use Rattle.code_blocks.specs.Kept.{key_of, name_in, key_at, passes_key, AreKeys}
 use Rattle.code_blocks.proofs.ListLemmas.{any_map, has_at}
-
--- ---- how many symbols there are
-
-length_symbols : (file : List ℕ) (table n : ℕ) → length (symbols_below file table n) ≡ n
-length_symbols file table zero = refl
-length_symbols file table (suc n) =
-    let earlier = length_symbols file table n in
-    let more = length-append (symbols_below file table n) (symbol_of file table n ∷ []) in
-    omega (arith, earlier, more)
-
-symbols_limited : (file : List ℕ) (found : Option ℕ) → found_table_fault file found ≡ None → length (symbols_in file found) ≤ 65536
-symbols_limited file None none = omega arith
-symbols_limited file (Some table) none =
-    let s = section_header file table in
-    let after_size = both_none (symbol_size_fault s) _ none in
-    let after_shared = both_none (shared_table_fault file table) _ after_size.1 in
-    let after_strings = both_none (symbol_strings_fault file table) _ after_shared.1 in
-    let limit = both_none (symbol_limit_fault s) _ after_strings.1 in
-    let few = leb-true (symbol_count_of s) 65536 (holds _ _ limit.0) in
-    let count = length_symbols file table (symbol_count_of s) in
-    omega (arith, few, count)
-
-pub symbols_few : (view : ElfView) → IsRead view → length view.symbols.items ≤ 65536
-symbols_few view read =
-    let (file, is, none) = read in
-    let after_header = both_none (header_fault file) _ none in
-    let after_segments = both_none (program_headers_fault file) _ after_header.1 in
-    let after_sections = both_none (sections_fault file) _ after_segments.1 in
-    let symbols = both_none (symbols_fault file) _ after_sections.1 in
-    let found = both_none (one_table_fault file) _ symbols.0 in
-    let limited = symbols_limited file (symbol_table file) found.1 in
-    let count = length-map view.symbols.items plain_symbol in
-    let same = ap length is.symbols in
-    omega (arith, limited, count, same)
 
 -- ---- what holds of the symbol of a function
 

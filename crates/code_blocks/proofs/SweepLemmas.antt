@@ -14,7 +14,8 @@ use Rattle.code_blocks.specs.Blocks.{name_of}
 use Rattle.code_blocks.specs.Kept.{name_in, AreKeys, AreKept}
 use Rattle.code_blocks.specs.declared.parts.Function.{Function}
 use Rattle.code_blocks.proofs.ListLemmas.{has_at}
-use Rattle.code_blocks.proofs.KeyLemmas.{symbols_few, function_sized, key_found, names_exact, names_ordered}
+use Rattle.loaded_file.proofs.SymbolCount.{symbols_few}
+use Rattle.code_blocks.proofs.KeyLemmas.{function_sized, key_found, names_exact, names_ordered}
 use Rattle.code_blocks.proofs.KeptLemmas.{AreSwept, IsNext, swept_left, swept_kept}
 
 -- the place of a name among those that have come

@@ -27,6 +27,7 @@ use Rattle.elf_reader.proofs.SegmentLemmas.{none_of_headers}
 use Rattle.elf_reader.proofs.SectionLemmas.{none_of_sections, section_contents_held}
 use Rattle.elf_reader.proofs.SymbolLemmas.{symbols_readable}
 use Rattle.elf_reader.proofs.LoadedLemmas.{section_is, loaded_below}
+use Rattle.loaded_file.proofs.SymbolCount.{length_symbols}
 use Rattle.elf_writer.specs.declared.parts.Patch.{Patch}
 use Rattle.elf_writer.specs.declared.parts.SymbolMove.{SymbolMove}
 use Rattle.elf_writer.specs.Parts.{NewSegment, no_symbol, nth_symbol, content_place}
@@ -118,13 +119,6 @@ pub patches_fit : (file : List ℕ) (ps : List Patch) → first_fault file ≡ N
 patches_fit file ps none patched i d below = word_inside file (get_or ps i d).offset none (patched i d below)
 
 -- the symbols of a table
-pub length_symbols : (file : List ℕ) (table n : ℕ) → length (symbols_below file table n) ≡ n
-length_symbols file table zero = refl
-length_symbols file table (suc n) =
-    let earlier = length_symbols file table n in
-    let more = length-append (symbols_below file table n) (symbol_of file table n ∷ []) in
-    omega (arith, earlier, more)
-
 pub symbol_below : (file : List ℕ) (table n k : ℕ) → k < n → nth_symbol (symbols_below file table n) k ≡ symbol_of file table k
 symbol_below file table zero k below = absurd (omega arith)
 symbol_below file table (suc n) k below =

@@ -18,7 +18,8 @@ use Rattle.elf_reader.proofs.LoadedLemmas.{length_sections, section_is, loaded_f
 use Rattle.elf_writer.specs.declared.parts.SymbolMove.{SymbolMove}
 use Rattle.elf_writer.specs.Parts.{nth_symbol}
 use Rattle.elf_writer.specs.Conditions.{is_loaded_word, HasSymbol}
-use Rattle.elf_writer.proofs.FitLemmas.{none_of_symbols, loaded_word, length_symbols, symbol_below}
+use Rattle.loaded_file.proofs.SymbolCount.{length_symbols}
+use Rattle.elf_writer.proofs.FitLemmas.{none_of_symbols, loaded_word, symbol_below}
 use Rattle.list_checks.proofs.FirstLemmas.{none_at as no_check_at}
 
 -- ---- no content of a section meets the ELF header, and the section headers don't

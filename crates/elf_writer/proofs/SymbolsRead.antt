@@ -23,7 +23,8 @@ use Rattle.elf_writer.proofs.ChangeLemmas.{byte_changed-append}
 use Rattle.elf_writer.proofs.WrittenLemmas.{bytes_written}
 use Rattle.elf_writer.proofs.AlikeLemmas.{word_alike}
 use Rattle.elf_writer.proofs.FreeLemmas.{free_stays, IsOffChanges, moves_off, header_free, behind_header}
-use Rattle.elf_writer.proofs.FitLemmas.{contents_held, readable_held, length_symbols}
+use Rattle.loaded_file.proofs.SymbolCount.{length_symbols}
+use Rattle.elf_writer.proofs.FitLemmas.{contents_held, readable_held}
 use Rattle.elf_writer.proofs.PlaceLemmas.{content_off_header, OwnTable, own_table, moved_record}
 use Rattle.elf_writer.proofs.RangeLemmas.{OffSections, off_patches, kinds_differ}
 use Rattle.elf_writer.proofs.HeaderRead.{keeps_header, whole_word}

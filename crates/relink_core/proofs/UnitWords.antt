@@ -1,10 +1,9 @@
 -- The new words of sites, for the units of the code that stand there, by the regions of their blocks.
-use Rattle.std.proofs.Common.{◌≡◌, ◌∙◌, ◌⊎◌, inl, inr, ℕ, ◌+◌, ◌-◌, ◌*◌, ◌/◌, ◌%◌, ◌<◌, ◌≤◌, ◌==◌, nat_le, nat_lt, true, false, ◌&&◌, List, [], ◌∷◌, map, length, get_or, slice_index_or, sym, ap, subst, arith}
-use Rattle.std.specs.List.Sorted.{IsPartitionPoint, IsPartitionedBy, IsStrictlyIncreasing}
+use Rattle.std.proofs.Common.{◌≡◌, ◌∙◌, inl, inr, ℕ, ◌+◌, ◌-◌, ◌*◌, ◌/◌, ◌%◌, ◌<◌, ◌≤◌, ◌==◌, nat_le, nat_lt, true, false, ◌&&◌, List, [], ◌∷◌, length, get_or, slice_index_or, sym, ap, subst, arith}
+use Rattle.std.specs.List.Sorted.{IsPartitionPoint, IsStrictlyIncreasing}
 use Rattle.std.proofs.lemmas.Bool.{cases_eq, cases_lt, eqb-true, eq-eqb, leb-true}
 use Rattle.std.proofs.lemmas.Bool.Decides.{nat_tests}
-use Rattle.std.proofs.lemmas.List.{get_or_default, get_or-map, length-map}
-use Rattle.std.proofs.lemmas.List.Kept.{AllPairs-from_increasing}
+use Rattle.std.proofs.lemmas.List.{get_or_default, get_or-map}
 use Rattle.list_checks.proofs.TestLemmas.{both}
 use Rattle.elf_reader.specs.File.{PlainView, view_in}
 use Rattle.board_config.specs.declared.board.Board.{Board}
@@ -200,22 +199,6 @@ module _ (file : List ℕ) (board : Board) (g : Graph) (c : Code) (accepted : Is
         }
 
 -- ---- lists of regions
-
-pub blocks_begun : (blocks : List Block) (a : ℕ) → IsStrictlyIncreasing (map start_of blocks) → IsPartitionedBy (λ (b : Block). nat_le b.start a) blocks
-blocks_begun blocks a ascending i j d le below test =
-    let place : (i ≡ j) ⊎ (i < j) = grind arith in
-    elim place [
-      | inl same ↦ rw same test
-      | inr lower ↦
-          let count = length-map blocks start_of in
-          let less = AllPairs-from_increasing (map start_of blocks) ascending i j 0 lower (omega (arith, below, count)) in
-          let first : slice_index_or (map start_of blocks) i 0 ≡ (slice_index_or blocks i d).start = get_or-map start_of blocks i d 0 (omega (arith, lower, below)) in
-          let second : slice_index_or (map start_of blocks) j 0 ≡ (slice_index_or blocks j d).start = get_or-map start_of blocks j d 0 below in
-          still_up (slice_index_or blocks i d).start (slice_index_or blocks j d).start a (omega (arith, less, first, second)) test
-    ]
-  where
-    still_up : (x y a : ℕ) → x < y → nat_le y a ≡ true → nat_le x a ≡ true
-    still_up x y a lower less = grind (arith, nat_tests, lower, less)
 
 -- those of the first `n` sites
 pub record AreRegionsBelow (c : Code) (regions : List ℕ) (g : Graph) (n : ℕ) (region_at : List ℕ) : Type 0 where

@@ -1,6 +1,6 @@
 //! The regions of sites: each is that of the block whose unit stands there.
-ghost use Rattle.std.specs.Prelude.{◌≡◌, ℕ, ◌<◌, ◌≤◌, ◌==◌, nat_le, nat_lt, true, false, ◌&&◌, length, slice_index_or, IfOk};
-ghost use Rattle.std.specs.List.Sorted.{IsStrictlyIncreasing, IsPartitionPoint};
+ghost use Rattle.std.specs.Prelude.{◌≡◌, ◌<◌, ◌==◌, nat_lt, ◌&&◌, length, slice_index_or, IfOk};
+ghost use Rattle.std.specs.List.Sorted.{IsStrictlyIncreasing};
 ghost use Rattle.elf_reader.specs.File.{PlainView};
 ghost use Rattle.object_machine.specs.Program.{Program};
 ghost use Rattle.code_blocks.specs.{Numbers.{starts_of}, Leads.{no_unit}};
@@ -11,15 +11,6 @@ use crate::code_regions::CodeRegions;
 use code_blocks::{Block, Code};
 use object_graph::Graph;
 use std::alloc::{AllocError, Global};
-
-/// How many blocks begin at an address or before it.
-fn blocks_up_to(code: &Code, address: u32) -> usize
-    requires { IsStrictlyIncreasing (starts_of code.now) }
-    ensures bound { result ≤ length code.now.blocks.items }
-    ensures point { IsPartitionPoint (λ b. nat_le b.start address ≡ true) (λ b. nat_le b.start address ≡ false) code.now.blocks.items result }
-{
-    code.blocks.partition_point(|block| block.start <= address)
-}
 
 /// Whether a unit of a block stands at an address.
 fn has_unit(block: &Block, place: usize, address: u32) -> bool
@@ -34,7 +25,7 @@ fn region_at(code: &Code, regions: &CodeRegions, address: u32) -> u32
     requires stand { (v : PlainView) × (p : Program) × UnitsStand v p code.now }
     ensures { HasRegion code.now regions.now.of_block.now address result }
 {
-    let count = blocks_up_to(code, address);
+    let count = code.blocks_up_to(address);
     if count == 0 {
         return 0;
     }

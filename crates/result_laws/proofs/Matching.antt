@@ -1,6 +1,5 @@
 -- Where a program goes on, its result matches it behind each of its steps.
 use Rattle.std.proofs.Common.{◌≡◌, ℕ, ◌+◌, ◌*◌, ◌≤◌, List, ◌++◌, length, Option, refl, subst, arith}
-use Rattle.std.proofs.lemmas.List.{length-map}
 use Rattle.rv32im.specs.Memory.{word_at}
 use Rattle.rv32im.specs.declared.instructions.Instr.{Instr}
 use Rattle.rv32im.proofs.Meaning.{same_instruction}
@@ -9,7 +8,6 @@ use Rattle.elf_reader.specs.Image.{image_of}
 use Rattle.elf_reader.specs.Loadable.{AreBytes}
 use Rattle.board_config.specs.declared.board.Board.{Board}
 use Rattle.flat_machine.specs.declared.events.FlatEvent.{FlatEvent}
-use Rattle.flat_machine.specs.Lines.{fetch_of}
 use Rattle.flat_machine.specs.Runs.{Does}
 use Rattle.flat_machine.specs.State.{State}
 use Rattle.flat_machine.proofs.Runs.{does_joined, one_run, steps_joined, steps_of_events}
@@ -24,11 +22,10 @@ use Rattle.object_machine.specs.Runs.{Steps}
 use Rattle.object_machine.specs.Paired.{Origins, at_start}
 use Rattle.patch_code.specs.Start.{start_run}
 use Rattle.simulation.specs.Setups.{Setup}
-use Rattle.simulation.specs.Forms.{FormAt, InWords, InRow, FormTells}
-use Rattle.simulation.specs.Folds.{Folds, Few, few_each, pace_of, KeepsTold}
+use Rattle.simulation.specs.Folds.{Folds, few_each, pace_of, KeepsTold}
 use Rattle.simulation.specs.Relation.{Tells}
 use Rattle.simulation.specs.Ways.{AtAny, Arrivals, TellsJoin, within}
-use Rattle.simulation.proofs.AnyRegions.{few_joined, runs_at_any}
+use Rattle.simulation.proofs.AnyRegions.{few_joined, few_words, runs_at_any}
 use Rattle.simulation.specs.Relation.{Alike}
 use Rattle.simulation.proofs.Resets.{any_reset, alike_reset}
 use Rattle.simulation.proofs.Runs.{counts_fold}
@@ -120,29 +117,6 @@ going_told o tells es is told = subst (λ x. Tells x tells es) is told
 
 -- ---- the states of a result
 
--- a unit's words are at least one and at most four
-unit_few : (p : Program) (l : Setup) (live arrive : ℕ → ℕ → Type 0) (r u a : ℕ) (t : State) (form : FormAt p l live arrive r u a) → FormTells p l live arrive (Few 4) r u a t form
-unit_few p l live arrive r u a t (InWords words) =
-    record {
-      one = λ single e t' step. (omega arith, omega arith);
-      two = λ pair e f t' t'' first second. (omega arith, omega arith);
-    }
-unit_few p l live arrive r u a t (InRow row) =
-    record {
-      one = λ i single reads at.
-          let run = (row.one i single reads).1 t at in
-          let count = length-map run.fetched (fetch_of t.hart.mem) in
-          let some = run.some in
-          let few = run.few in
-          (omega (arith, count, some), omega (arith, count, few));
-      pair = λ is at.
-          let run = row.pair is t at in
-          let count = length-map run.fetched (fetch_of t.hart.mem) in
-          let some = run.some in
-          let few = run.few in
-          (omega (arith, count, some), omega (arith, count, few));
-    }
-
 module _ (file out : List ℕ) (board : Board) (g : Graph) (c : Code) (pl : ChosenPlacement) (result : IsPlacedResult file out board g c pl) (input : List ℕ) where
   open (setting file out board g c pl result) use {v, p, l, live, plan, form, comes}
 
@@ -211,7 +185,7 @@ module _ (file out : List ℕ) (board : Board) (g : Graph) (c : Code) (pl : Chos
         (λ s read t es. few_each (4 + most) s read t es × ((next_state p s read).outcome ≡ GoesOn → Lands Related (next_state p s read) t es))
         (λ m. at_start) (liveness_keeps file board g c result.accepted result.code) (forms file out board g c pl result input)
         (λ s m t read at reads paired.
-        unit_few p l live (comes at.region) at.region s.pc t.hart.pc t (forms file out board g c pl result input at.region s.pc t.hart.pc at.at))
+        few_words p l live (comes at.region) at.region s.pc t.hart.pc t (forms file out board g c pl result input at.region s.pc t.hart.pc at.at))
         (arrivals_land p l live comes form holds (within most) (arrives file out board g c pl result input))
         (lands_join p Related (few_each 4) (within most) (few_each (4 + most)) (few_joined p 4 most)) resets
         (λ n s s' t es. pace_of (4 + most) n s s' t es × LandsOn Related s s' t es)

@@ -41,12 +41,12 @@ module _ (p : Program) where
 
   -- ---- where accesses go
 
-  located_same : (width : ℕ) (x : Val) → located p width x ≡ located q width x
+  pub located_same : (width : ℕ) (x : Val) → located p width x ≡ located q width x
   located_same width (Int a) = refl
   located_same width (Addr o d) = refl
   located_same width x = refl
 
-  address_same : (site : Option Target) (x : Val) (imm : ℤ) → address_of p site x imm ≡ address_of q site x imm
+  pub address_same : (site : Option Target) (x : Val) (imm : ℤ) → address_of p site x imm ≡ address_of q site x imm
   address_same None x imm = refl
   address_same (Some t) x imm = refl
 

@@ -1,8 +1,9 @@
-use Rattle.std.proofs.Common.{◌≡◌, ◌∙◌, ◌<◌, length, sym, arith}
+use Rattle.std.proofs.Common.{◌∙◌, length, sym, arith}
 use Rattle.std.proofs.lemmas.Bool.{both_ways}
 use Rattle.std.proofs.lemmas.List.{length-map}
 use Rattle.elf_reader.specs.File.{plain_symbol, plain_view}
-use Rattle.object_graph.proofs.ObjectLemmas.{first_is, first_passes, none_first, few_symbols}
+use Rattle.loaded_file.proofs.SymbolCount.{few_symbols}
+use Rattle.object_graph.proofs.ObjectLemmas.{first_is, first_passes, none_first}
 use Rattle.object_graph.proofs.objects.object_of.Goals as goal
 
 pub overflow_cast-result : goal.overflow_cast-result

@@ -2,7 +2,7 @@ use Rattle.std.proofs.Common.{◌∙◌, ℕ, List, refl, sym, ap, subst}
 use Rattle.elf_reader.specs.File.{plain_view, IsFile}
 use Rattle.elf_reader.specs.Faults.{first_fault}
 use Rattle.elf_writer.specs.Parts.{new_segment}
-use Rattle.code_blocks.proofs.KeyLemmas.{symbols_few}
+use Rattle.loaded_file.proofs.SymbolCount.{symbols_few}
 use Rattle.relink_core.proofs.ResultGoals.{listed, starts, homes_rise, pads_reach, may_write, moved, file_written, may_write_so}
 use Rattle.relink_core.proofs.chosen_results.placed_result.Goals as goal
 
