@@ -6,4 +6,5 @@ pub mod OverlapLemmas
 pub mod ReachLemmas
 pub mod DisjointSections
 pub mod ListedLemmas
+pub mod SymbolCount
 pub mod ContentLemmas
