@@ -56,13 +56,21 @@ pub struct RawSegment {
     pub memsz: u32,
 }
 
-/// A symbol.
+/// A function or a label.
 #[derive(Clone, Copy)]
 pub struct RawSymbol<'a> {
     /// Its name, without the zero byte.
     pub name: &'a [u8],
     /// Its address.
     pub value: u32,
+}
+
+/// The fields of a symbol. Names may be long, and are read where they are told.
+#[derive(Clone, Copy)]
+struct SymbolFields {
+    /// Where its name begins in the file.
+    name: u32,
+    value: u32,
     kind: u32,
     section: u32,
 }
@@ -165,11 +173,11 @@ impl<'a> UncheckedFile<'a> {
     }
 
     /// Symbol `k` of a table.
-    fn symbol(&self, table: &RawSection, k: u32) -> RawSymbol<'a> {
+    fn symbol(&self, table: &RawSection, k: u32) -> SymbolFields {
         let at = UncheckedFile::record(table.offset, SYMBOL_SIZE, k);
         let names = self.section(table.link).offset;
-        RawSymbol {
-            name: self.text(names.saturating_add(self.word(at, 0))),
+        SymbolFields {
+            name: names.saturating_add(self.word(at, 0)),
             value: self.word(at, 4),
             kind: self.half(at, 12) & 15,
             section: self.half(at, 14),
@@ -180,16 +188,16 @@ impl<'a> UncheckedFile<'a> {
     /// it that names a file does.
     pub fn source_of(&self, relocation: &RawRelocation) -> &'a [u8] {
         let table = &relocation.table;
-        let mut source: &'a [u8] = &[];
-        if relocation.number < table.info {
-            for k in 0..relocation.number.min(table.size / SYMBOL_SIZE) {
-                let symbol = self.symbol(table, k);
-                if symbol.kind == FILE_SYMBOL {
-                    source = symbol.name;
-                }
+        if relocation.number >= table.info {
+            return &[];
+        }
+        for k in (0..relocation.number.min(table.size / SYMBOL_SIZE)).rev() {
+            let symbol = self.symbol(table, k);
+            if symbol.kind == FILE_SYMBOL {
+                return self.text(symbol.name);
             }
         }
-        source
+        &[]
     }
 
     /// How many relocations change sections with memory.
@@ -205,17 +213,30 @@ impl<'a> UncheckedFile<'a> {
     pub fn code_symbol(&self, address: u32) -> Option<RawSymbol<'a>> {
         let table = self.symbol_table()?;
         let section = self.section_at(address)?;
-        let mut last: Option<RawSymbol<'a>> = None;
+        let mut last: Option<SymbolFields> = None;
         for k in 0..table.size / SYMBOL_SIZE {
             let symbol = self.symbol(&table, k);
             if symbol.section == section
-                && symbol.names_code()
                 && symbol.is_between(&last, address)
+                && self.names_code(&symbol)
             {
                 last = Some(symbol);
             }
         }
-        last
+        let found = last?;
+        Some(RawSymbol {
+            name: self.text(found.name),
+            value: found.value,
+        })
+    }
+
+    /// Whether a symbol is a function, or a label that no tool makes: those are such as `.L0` and `$x`.
+    fn names_code(&self, symbol: &SymbolFields) -> bool {
+        match self.byte(symbol.name) {
+            0 => false,
+            b'.' | b'$' => symbol.kind == u32::from(STT_FUNC),
+            _ => symbol.kind == 0 || symbol.kind == u32::from(STT_FUNC),
+        }
     }
 
     /// The section of the first symbol table.
@@ -307,7 +328,7 @@ impl<'a> UncheckedFile<'a> {
         RawRelocation {
             at: self.word(at, 0),
             kind: info & 0xff,
-            symbol: self.symbol(&symbols, info >> 8).name,
+            symbol: self.text(self.symbol(&symbols, info >> 8).name),
             number: info >> 8,
             table: symbols,
             section: self.section_name(section.info),
@@ -327,20 +348,9 @@ impl RawSection {
     }
 }
 
-impl<'a> RawSymbol<'a> {
-    /// Whether it is a function, or a label that no tool makes: those are such as `.L0` and `$x`.
-    fn names_code(&self) -> bool {
-        match self.name.first() {
-            Some(first) => {
-                self.kind == u32::from(STT_FUNC)
-                    || self.kind == 0 && *first != b'.' && *first != b'$'
-            }
-            None => false,
-        }
-    }
-
+impl SymbolFields {
     /// Whether it stands at an address or before it, and not before another symbol, if there is one.
-    fn is_between(&self, other: &Option<RawSymbol>, address: u32) -> bool {
+    fn is_between(&self, other: &Option<SymbolFields>, address: u32) -> bool {
         match other {
             Some(other) => other.value <= self.value && self.value <= address,
             None => self.value <= address,
