@@ -6,19 +6,20 @@ ghost use Rattle.branch_bound.specs.{Visits.{ShownHere, IsVisited}, Guided.{Cann
 
 use crate::guiding::DualSolution;
 use crate::side_visiting::Visit;
-use certificate_checker::{Fixing, TreeNode, Weighed, branch_holds, dual_holds_by_row, keeps_rule};
+use certificate_checker::{
+    Fixing, TreeNode, Weighed, branch_holds, dual_holds_by_row, leaf_holds, over_holds,
+};
 use placement_programme::Side;
 use std::alloc::{AllocError, Global};
 
 /// A row that is exceeded fathoms a node.
-fn fathom_over(side: &Side, best: u128, marks: &[Fixing], row: Option<u32>) -> Option<TreeNode>
-    requires best { best ≤ 2 ^ 104 }
-    requires marked { length (plain_side side.now).vars ≤ length marks.now }
-    ensures { ShownHere (plain_side side.now) best marks.now result }
+fn fathom_over(side: &Side, marks: &[Fixing], row: Option<u32>) -> Option<TreeNode>
+    requires { length (plain_side side.now).vars ≤ length marks.now }
+    ensures { (best : ℕ) → ShownHere (plain_side side.now) best marks.now result }
 {
-    let node = TreeNode::Over { row: row? };
-    if keeps_rule(side, best, marks, &node) {
-        Some(node)
+    let row = row?;
+    if over_holds(side, marks, row) {
+        Some(TreeNode::Over { row })
     } else {
         None
     }
@@ -78,9 +79,8 @@ fn fathom_leaf(side: &Side, best: u128, marks: &[Fixing]) -> Option<TreeNode>
     requires marked { length (plain_side side.now).vars ≤ length marks.now }
     ensures { ShownHere (plain_side side.now) best marks.now result }
 {
-    let node = TreeNode::Leaf;
-    if keeps_rule(side, best, marks, &node) {
-        Some(node)
+    if leaf_holds(side, best, marks) {
+        Some(TreeNode::Leaf)
     } else {
         None
     }
@@ -99,7 +99,7 @@ fn fathom(
     requires dual { ShownHere (plain_side side.now) best marks.now dual }
     ensures { ShownHere (plain_side side.now) best marks.now result }
 {
-    if let Some(node) = fathom_over(side, best, marks, exceeded) {
+    if let Some(node) = fathom_over(side, marks, exceeded) {
         return Some(node);
     }
     if dual.is_some() {

@@ -7,7 +7,7 @@ use Rattle.placement_programme.specs.Plain.{PlainSide}
 use Rattle.placement_programme.specs.Bounds.{RowsWithin, IsWithinBounds, row_of, value_of}
 use Rattle.placement_programme.specs.Programme.{gain_at, weight_in}
 use Rattle.placement_programme.specs.Sums.{sum_below}
-use Rattle.placement_programme.proofs.TakeLemmas.{below_same, below_at_most}
+use Rattle.placement_programme.proofs.TakeLemmas.{below_same}
 use Rattle.certificate_checker.specs.Rules.{kept, moved, kept_at}
 use Rattle.certificate_checker.specs.Parts.{kept_part, moved_part, SumsHold}
 use Rattle.certificate_checker.specs.Prices.{unpriced, price_if, priced_at, AreFrom, credit, credit_part, credits}
@@ -16,7 +16,7 @@ use Rattle.certificate_checker.specs.declared.fixings.Fixing.{Fixing}
 use Rattle.certificate_checker.specs.declared.fixings.Fixing.TheVariants.{Zero, One, Free}
 use Rattle.certificate_checker.specs.declared.prices.Priced.{Priced}
 use Rattle.certificate_checker.proofs.EntryLemmas.{weight_before, weight_here, weight_disjoint}
-use Rattle.certificate_checker.proofs.Limits.{gains_so_far, kept_at_most}
+use Rattle.certificate_checker.proofs.Limits.{many_small}
 
 -- a price of another stamp is 0
 other_stamp : (stamp : ℕ) (p : Priced) → p.stamp ≢ stamp → price_if stamp p ≡ 0
@@ -111,13 +111,6 @@ credit_small Zero gain price = omega arith
 credit_small One gain price = omega arith
 credit_small Free gain price = omega arith
 
-many_small : (f : ℕ → ℕ) (n bound : ℕ) → ((k : ℕ) → k < n → f k ≤ bound) → sum_below n f ≤ n * bound
-many_small f zero bound small = omega arith
-many_small f (suc n) bound small =
-    let rest = many_small f n bound (λ k inside. small k (omega (arith, inside))) in
-    let here = small n (omega arith) in
-    omega (arith, rest, here)
-
 pub credits_small : (s : PlainSide) (marks : List Fixing) (scale : ℕ) (price : ℕ → ℕ) → IsWithinBounds s → ((j : ℕ) → price j ≤ 2 ^ 113) → credits s marks scale price ≤ 4000 * 2 ^ 113
 credits_small s marks scale price bounds small =
     let all = many_small (credit_part s marks scale price) (length s.vars) (2 ^ 113) (λ k inside. let less = credit_small (fixing_of marks k) (scale * gain_at s.vars k) (price k) in let most = small k in omega (arith, less, most)) in
@@ -168,10 +161,3 @@ credits_few s marks scale price credit bounds low is =
     let rows = bounds.few_rows in
     let all = credits_small s marks scale price bounds (λ j. let here = low j in omega (arith, here, rows)) in
     omega (arith, all, is)
-
-pub open_few : (s : PlainSide) (marks : List Fixing) (open_gain : ℕ) → IsWithinBounds s → open_gain ≡ sum_below (length s.vars) (kept_at s marks 1 []) → open_gain < 2 ^ 104
-open_few s marks open_gain bounds is =
-    let less = below_at_most (kept_at s marks 1 []) (gain_at s.vars) (length s.vars) (λ k inside. let most = kept_at_most (fixing_of marks k) (1 * gain_at s.vars k) 0 in omega (arith, most)) in
-    let all = gains_so_far s.vars (length s.vars) (omega arith) in
-    let total = bounds.gains in
-    omega (arith, less, all, is, total)

@@ -22,5 +22,4 @@ pub mod WayLemmas
 pub mod RowLoads
 pub mod TallyLemmas
 pub mod NodeLemmas
-pub mod NodeWalks
 pub mod CreditLemmas

@@ -1,22 +1,20 @@
 -- No sum of the checks passes 128 bits.
-use Rattle.std.proofs.Common.{ℕ, zero, suc, ◌+◌, ◌*◌, ◌^◌, ◌<◌, ◌≤◌, List, [], ◌∷◌, map, length, arith}
+use Rattle.std.proofs.Common.{ℕ, zero, suc, ◌+◌, ◌*◌, ◌<◌, ◌≤◌, List, [], ◌∷◌, map, length, arith}
 use Rattle.std.specs.List.{sum_by}
 use Rattle.std.proofs.Math.Nat.{mul-le-mul}
 use Rattle.std.proofs.lemmas.List.{length-map}
 use Rattle.std.proofs.lemmas.List.Sums.{sum_by-cons}
-use Rattle.placement_programme.specs.Plain.{PlainVar, PlainSide}
-use Rattle.placement_programme.specs.Bounds.{RowsWithin, IsWithinBounds, row_of}
+use Rattle.placement_programme.specs.Plain.{PlainVar}
+use Rattle.placement_programme.specs.Bounds.{RowsWithin, row_of}
 use Rattle.placement_programme.specs.Programme.{gain_at}
 use Rattle.placement_programme.specs.Sums.{sum_below}
 use Rattle.placement_programme.proofs.AscendLemmas.{count_within}
 use Rattle.placement_programme.proofs.SumLemmas.{below_grows, gains_below}
 use Rattle.placement_programme.proofs.TakeLemmas.{below_at_most}
 use Rattle.certificate_checker.specs.Rules.{kept, if_one}
-use Rattle.certificate_checker.specs.Parts.{kept_part}
 use Rattle.certificate_checker.specs.Fixings.{fixing_of}
 use Rattle.certificate_checker.specs.declared.fixings.Fixing.{Fixing}
 use Rattle.certificate_checker.specs.declared.fixings.Fixing.TheVariants.{Zero, One, Free}
-use Rattle.certificate_checker.proofs.Selections.{below_scaled}
 
 -- ascending rows are no more than the rows
 pub rows_few : (high : ℕ) (ms : List (ℕ × ℕ)) → RowsWithin 0 high ms → length ms ≤ high
@@ -53,18 +51,16 @@ gains_so_far vs n inside =
 pub product_small : (a b c d : ℕ) → a ≤ c → b ≤ d → a * b ≤ c * d
 product_small a b c d first second = mul-le-mul first second
 
-pub left_small : (s : PlainSide) (marks : List Fixing) (scale : ℕ) (f : ℕ → ℕ) (n : ℕ) → IsWithinBounds s → scale ≤ 65536 → n < length s.vars → sum_below n (kept_part s marks scale f) + kept_part s marks scale f n ≤ 65536 * 2 ^ 104
-left_small s marks scale f n bounds few inside =
-    let less = below_at_most (kept_part s marks scale f) (λ j. scale * gain_at s.vars j) (suc n) (λ j below. kept_at_most (fixing_of marks j) (scale * gain_at s.vars j) _) in
-    let out = below_scaled scale (gain_at s.vars) (suc n) in
-    let gains = gains_so_far s.vars (suc n) (omega arith) in
-    let total = bounds.gains in
-    let most : scale * sum_below (suc n) (gain_at s.vars) ≤ 65536 * 2 ^ 104 =
-    product_small scale (sum_below (suc n) (gain_at s.vars)) 65536 (2 ^ 104) few (omega (arith, gains, total)) in
-    omega (arith, less, out, most)
-
 pub ones_small : (vs : List PlainVar) (marks : List Fixing) (n : ℕ) → n < length vs → sum_below n (λ j. if_one (fixing_of marks j) (gain_at vs j)) + gain_at vs n ≤ sum_by (λ v. v.gain) vs
 ones_small vs marks n inside =
     let less = below_at_most (λ j. if_one (fixing_of marks j) (gain_at vs j)) (gain_at vs) n (λ j below. one_at_most (fixing_of marks j) (gain_at vs j)) in
     let gains = gains_so_far vs (suc n) (omega arith) in
     omega (arith, less, gains)
+
+-- a sum of small numbers
+pub many_small : (f : ℕ → ℕ) (n bound : ℕ) → ((k : ℕ) → k < n → f k ≤ bound) → sum_below n f ≤ n * bound
+many_small f zero bound small = omega arith
+many_small f (suc n) bound small =
+    let rest = many_small f n bound (λ k inside. small k (omega (arith, inside))) in
+    let here = small n (omega arith) in
+    omega (arith, rest, here)

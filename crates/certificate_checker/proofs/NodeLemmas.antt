@@ -5,9 +5,8 @@ use Rattle.std.proofs.lemmas.Grind.{flat_map-append}
 use Rattle.std.proofs.lemmas.List.Folds.{flat_map-map}
 use Rattle.std.proofs.lemmas.List.Concat.{flat_map-cons}
 use Rattle.certificate_checker.specs.Nodes.{PlainTree, branch, over, dual, leaf}
-use Rattle.certificate_checker.specs.NodeLists.{node_tree, PlainNode, branch_node, over_node, dual_node, leaf_node, nodes_of, first_tree, with_node, trees_of, tree_of, one_more, one_of_two, tree_count}
+use Rattle.certificate_checker.specs.NodeLists.{PlainNode, branch_node, over_node, dual_node, leaf_node, nodes_of, first_tree, with_node, trees_of, tree_of, one_more, one_of_two, tree_count}
 use Rattle.certificate_checker.specs.NodeViews.{plain_node}
-use Rattle.certificate_checker.specs.Loading.{IsSingle}
 use Rattle.certificate_checker.specs.declared.nodes.TreeNode.{TreeNode}
 use Rattle.certificate_checker.specs.Spelling.{tree_text, node_text}
 
@@ -122,16 +121,3 @@ pub tree_written : (nodes : List TreeNode) → tree_count (map plain_node nodes)
 tree_written nodes whole =
     sym (flat_map-map node_text plain_node nodes)
     ∙ (ap (λ ns. flat_map node_text ns) (whole_nodes (map plain_node nodes) whole) ∙ nodes_text (tree_of (map plain_node nodes)))
-
--- the nodes of a tree that is one node, and of a branch
-pub single_node : (n : PlainNode) → IsSingle (node_tree n) → nodes_of (node_tree n) ≡ n ∷ []
-single_node (branch_node j) single = absurd single
-single_node (over_node row) single = refl
-single_node (dual_node scale ms) single = refl
-single_node leaf_node single = refl
-
-pub branch_nodes : (j : ℕ) (l r : PlainTree) (old first second new : List PlainNode) → first ≡ old ++ branch_node j ∷ [] → second ≡ first ++ nodes_of l → new ≡ second ++ nodes_of r → new ≡ old ++ nodes_of (branch j l r)
-branch_nodes j l r old first second new is_first is_second is_new =
-    is_new
-    ∙ (ap (λ ns. ns ++ nodes_of r) (is_second ∙ (ap (λ ns. ns ++ nodes_of l) is_first ∙ append_assoc old (branch_node j ∷ []) (nodes_of l)))
-    ∙ append_assoc old (branch_node j ∷ nodes_of l) (nodes_of r))

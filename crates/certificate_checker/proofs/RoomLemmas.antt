@@ -12,7 +12,7 @@ use Rattle.certificate_checker.specs.Shows.{IsAccepted, in_32_bits, Answers}
 use Rattle.certificate_checker.specs.Reading.{◌>>=◌, number_in, vars_at, flag_at, choice_at, tree_at, most_levels, PlainTrees, second_at, trees_at, trees_for, body_at}
 use Rattle.certificate_checker.specs.Spelling.{has_tree}
 use Rattle.certificate_checker.specs.Walks.{SideAnswers}
-use Rattle.certificate_checker.specs.Rooms.{AreTaken, vars_of, IsBest, AnswersFor, gain_if, gain_behind, verdict_for, KeepsChoice}
+use Rattle.certificate_checker.specs.Rooms.{AreTaken, vars_of, IsBest, AnswersFor, gain_behind, verdict_for, KeepsChoice}
 use Rattle.certificate_checker.proofs.NumberLaws.{chosen}
 use Rattle.certificate_checker.proofs.FieldLaws.{bind_ok, done, done_is}
 use Rattle.certificate_checker.proofs.Failures.{number_here}
@@ -130,11 +130,6 @@ body_read total bytes claimed r0 c r1 ts r2 x y z none = rw (x, y, z, none) refl
 pub answered : (side : Option PlainSide) (t : Option PlainTree) (r : Result (Unit {0}) Failing) (best : Option ℕ) → ((b : ℕ) → SideAnswers side b t r) → AnswersFor side best t r
 answered side t r None each = tt
 answered side t r (Some b) each = each b
-
--- a tree that is judged is answered
-pub judged_answers : (side : Option PlainSide) (judged : Bool) (best : ℕ) (t : Option PlainTree) (r : Result (Unit {0}) Failing) → (judged ≡ true → SideAnswers side best t r) → AnswersFor side (gain_if judged best) t r
-judged_answers side false best t r told = tt
-judged_answers side true best t r told = told refl
 
 -- a missing tree fails at its node 0
 pub missing_first : (s : PlainSide) (best : ℕ) (r : Result (Unit {0}) Failing) → r ≡ Err record { node = 0; depth = 0 } → SideAnswers (Some s) best None r

@@ -70,22 +70,3 @@ pub tree_same : (total levels : ℕ) (bytes : List ℕ) (tag : ℕ) (rest : List
 tree_same total levels bytes tag rest some zeroed first =
     ap (λ n. tree_at total n (0 ∷ rest)) (above levels some)
     ∙ ap (tree_at total levels) (ap (λ b. b ∷ rest) (sym zeroed) ∙ sym first)
-
--- the faults of a tree's first byte, and of a branch's first child
-pub none_read : (total levels : ℕ) (bytes : List ℕ) (e : CertFault) → bytes ≡ [] → e ≡ cut_off total → tree_at total levels bytes ≡ Err e
-unfolding tree_at
-none_read total zero bytes e none is = rw (none, is) refl
-none_read total (suc levels) bytes e none is = rw (none, is) refl
-
-pub deep_read : (total levels : ℕ) (bytes : List ℕ) (tag : ℕ) (rest : List ℕ) (e : CertFault) → levels ≡ 0 → bytes ≡ tag ∷ rest → e ≡ below_all total bytes tag → tree_at total levels bytes ≡ Err e
-unfolding tree_at
-deep_read total levels bytes tag rest e none split is =
-    ap (λ n. tree_at total n bytes) none ∙ (ap (λ bs. tree_at total 0 bs) split ∙ (ap (λ bs. Err (below_all total bs tag)) (sym split) ∙ ap (λ f. Err f) (sym is)))
-
-pub first_broken : (total levels : ℕ) (bytes : List ℕ) (var : ℕ) (rest : List ℕ) (e : CertFault) → number_in Node 0 4294967295 total bytes ≡ Ok (var, rest) → tree_at total levels rest ≡ Err e → tree_at total (suc levels) (0 ∷ bytes) ≡ Err e
-unfolding tree_at
-first_broken total levels bytes var rest e a b = rw (a, b) refl
-
-pub second_broken : (total levels : ℕ) (bytes : List ℕ) (var : ℕ) (r0 : List ℕ) (l : PlainTree) (r1 : List ℕ) (e : CertFault) → number_in Node 0 4294967295 total bytes ≡ Ok (var, r0) → tree_at total levels r0 ≡ Ok (l, r1) → tree_at total levels r1 ≡ Err e → tree_at total (suc levels) (0 ∷ bytes) ≡ Err e
-unfolding tree_at
-second_broken total levels bytes var r0 l r1 e a b c = rw (a, b, c) refl

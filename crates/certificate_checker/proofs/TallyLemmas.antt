@@ -13,7 +13,7 @@ use Rattle.certificate_checker.specs.Rules.{if_one, load_of, kept, kept_at}
 use Rattle.certificate_checker.specs.declared.fixings.Fixing.{Fixing}
 use Rattle.certificate_checker.specs.declared.fixings.Fixing.TheVariants.{Zero, One, Free}
 use Rattle.certificate_checker.proofs.Children.{mark_same, mark_other}
-use Rattle.certificate_checker.proofs.Limits.{gain_small, gains_so_far, kept_at_most, one_at_most}
+use Rattle.certificate_checker.proofs.Limits.{gain_small, gains_so_far, kept_at_most, one_at_most, many_small}
 use Rattle.certificate_checker.specs.Tallies.{if_free, AreTallies, IsAssignmentOf, HasRoomFor, HasSameRoomFor, Fixes}
 use Rattle.certificate_checker.specs.declared.assignments.Assignment.{Assignment}
 
@@ -136,20 +136,15 @@ gains_bounded s a bounds tallies =
     let total = bounds.gains in
     omega (arith, less, all, sum, total)
 
-pub bound_small : (s : PlainSide) (a : Assignment) → IsWithinBounds s → AreTallies s a → a.bound < 2 ^ 104
-bound_small s a bounds tallies =
-    let less = below_at_most (kept_at s a.marks.items 1 []) (gain_at s.vars) (length s.vars) (λ k inside. let most = kept_at_most (fixing_of a.marks.items k) (1 * gain_at s.vars k) 0 in omega (arith, most)) in
+pub open_few : (s : PlainSide) (marks : List Fixing) (open_gain : ℕ) → IsWithinBounds s → open_gain ≡ sum_below (length s.vars) (kept_at s marks 1 []) → open_gain < 2 ^ 104
+open_few s marks open_gain bounds is =
+    let less = below_at_most (kept_at s marks 1 []) (gain_at s.vars) (length s.vars) (λ k inside. let most = kept_at_most (fixing_of marks k) (1 * gain_at s.vars k) 0 in omega (arith, most)) in
     let all = gains_so_far s.vars (length s.vars) (omega arith) in
-    let sum = tallies.bound in
     let total = bounds.gains in
-    omega (arith, less, all, sum, total)
+    omega (arith, less, all, is, total)
 
-many_small : (f : ℕ → ℕ) (n bound : ℕ) → ((k : ℕ) → k < n → f k ≤ bound) → sum_below n f ≤ n * bound
-many_small f zero bound small = omega arith
-many_small f (suc n) bound small =
-    let rest = many_small f n bound (λ k inside. small k (omega (arith, inside))) in
-    let here = small n (omega arith) in
-    omega (arith, rest, here)
+pub bound_small : (s : PlainSide) (a : Assignment) → IsWithinBounds s → AreTallies s a → a.bound < 2 ^ 104
+bound_small s a bounds tallies = open_few s a.marks.items a.bound bounds tallies.bound
 
 pub load_bounded : (s : PlainSide) (a : Assignment) (row : ℕ) → IsWithinBounds s → AreTallies s a → slice_index a.loads.items row ≤ 2 ^ 62
 load_bounded s a row bounds tallies =

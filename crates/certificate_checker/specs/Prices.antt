@@ -1,22 +1,12 @@
 -- The prices of a side's variables, and what they credit to a dual node.
 use Rattle.std.specs.Prelude.{◌<◌, ◌≤◌, ℕ, ◌*◌, ◌==◌, if◌then◌else◌, ◌-◌, List, length, get_or, slice_index_or}
-use Rattle.std.specs.List.{sum_by}
 use Rattle.placement_programme.specs.Plain.{PlainSide}
-use Rattle.placement_programme.specs.Bounds.{row_of, value_of}
-use Rattle.placement_programme.specs.Programme.{weights_at, weight_in, gain_at}
+use Rattle.placement_programme.specs.Programme.{gain_at}
 use Rattle.placement_programme.specs.Sums.{sum_below}
 use Rattle.certificate_checker.specs.Fixings.{fixing_of}
 use Rattle.certificate_checker.specs.declared.fixings.Fixing.{Fixing}
 use Rattle.certificate_checker.specs.declared.fixings.Fixing.TheVariants.{Zero, One, Free}
 use Rattle.certificate_checker.specs.declared.prices.Priced.{Priced}
-
--- the price of some weights by the multiplier of each row
-abbrev pub priced_by : (ℕ → ℕ) → List (ℕ × ℕ) → ℕ
-priced_by multiplier ws = sum_by (λ w. multiplier (row_of w) * value_of w) ws
-
--- the price of variable `j` by multipliers of rows
-abbrev pub price_in : PlainSide → List (ℕ × ℕ) → ℕ → ℕ
-price_in s ms j = priced_by (weight_in ms) (weights_at s.vars j)
 
 abbrev pub unpriced : Priced
 unpriced = record { stamp = 0; price = 0 }

@@ -1,35 +1,23 @@
 -- What a text says, read from the left, and the first byte that breaks the grammar.
-use Rattle.std.specs.Prelude.{◌≡◌, ◌⊎◌, ℕ, zero, suc, ◌-◌, ◌==◌, nat_lt, nat_le, Bool, true, false, ◌&&◌, if◌then◌else◌, List, [], ◌∷◌, ◌++◌, length, Option, Some, None, option_map, Result, Ok, Err}
-use Rattle.std.specs.Borrow.{Bor}
+use Rattle.std.specs.Prelude.{◌≡◌, ℕ, zero, suc, ◌-◌, ◌==◌, nat_lt, nat_le, Bool, true, false, ◌&&◌, if◌then◌else◌, List, [], ◌∷◌, length, Option, Some, None, Result, Ok, Err}
 use Rattle.placement_programme.specs.Plain.{PlainChoice}
 use Rattle.placement_programme.specs.Bounds.{row_of}
 use Rattle.certificate_checker.specs.Nodes.{PlainTree, branch, over, dual, leaf, PlainCertificate}
-use Rattle.certificate_checker.specs.NodeLists.{PlainNode, nodes_of}
 use Rattle.certificate_checker.specs.Shows.{in_32_bits}
 use Rattle.certificate_checker.specs.Digits.{number_at}
-use Rattle.certificate_checker.specs.Views.{plain_tree}
-use Rattle.certificate_checker.specs.declared.reading.Trees.{Trees}
 use Rattle.certificate_checker.specs.declared.digits.NumberFault.{NumberFault}
 use Rattle.certificate_checker.specs.declared.digits.NumberFault.TheVariants.{Cut, Bad}
 use Rattle.certificate_checker.specs.declared.fields.Part.{Part}
 use Rattle.certificate_checker.specs.declared.fields.Part.TheVariants.{Head, Node}
 use Rattle.certificate_checker.specs.declared.fault.CertFault.{CertFault}
-use Rattle.certificate_checker.specs.declared.fault.CertFault.TheVariants.{BadHead, Truncated, BadNode, TooDeep, Trailing, Memory}
+use Rattle.certificate_checker.specs.declared.fault.CertFault.TheVariants.{BadHead, Truncated, BadNode, TooDeep, Trailing}
 
 infixl 10 ◌>>=◌
 abbrev pub ◌>>=◌ : {A B : Type 0} → Result A CertFault → (A → Result B CertFault) → Result B CertFault
 (Ok x) >>= f = f x
 (Err e) >>= f = Err e
 
--- what a function returned, seen by `view`, is what the definition gives, unless memory ran out
-abbrev pub Fails : {Y : Type 0} → CertFault → Result Y CertFault → Type 0
-Fails e read = (e ≡ Memory) ⊎ (read ≡ Err e)
-
-abbrev pub Gives : {X Y : Type 0} → (X → Y) → Result X CertFault → Result Y CertFault → Type 0
-Gives view (Ok x) read = read ≡ Ok (view x)
-Gives view (Err e) read = Fails e read
-
--- what takes no memory reads just what is read
+-- what a function returned, seen by `view`, is what the definition gives
 abbrev pub GivesAlways : {X Y : Type 0} → (X → Y) → Result X CertFault → Result Y CertFault → Type 0
 GivesAlways view (Ok x) read = read ≡ Ok (view x)
 GivesAlways view (Err e) read = read ≡ Err e
@@ -109,11 +97,6 @@ tree_at total (suc levels) (suc (suc (suc zero)) ∷ bytes) = Ok (leaf, bytes)
 tree_at total (suc levels) (suc (suc (suc (suc tag))) ∷ bytes) =
     Err (BadNode (place total (suc (suc (suc (suc tag))) ∷ bytes)))
 
--- what reading the nodes of a tree behind others leaves
-abbrev pub ReadsNodes : List PlainNode → List PlainNode → Result (Bor (List ℕ)) CertFault → Result (PlainTree × List ℕ) CertFault → Type 0
-ReadsNodes old new (Ok rest) read = (t : PlainTree) × ((read ≡ Ok (t, rest.now)) × (new ≡ old ++ nodes_of t))
-ReadsNodes old new (Err e) read = Fails e read
-
 -- a root and the depths 1 to 4096
 unfoldable pub most_levels : ℕ
 most_levels = 4097
@@ -152,9 +135,6 @@ choice_at total bytes =
 
 abbrev pub PlainTrees : Type 0
 PlainTrees = Option PlainTree × Option PlainTree
-
-abbrev pub plain_trees : Trees → PlainTrees
-plain_trees ts = (option_map plain_tree ts.off, option_map plain_tree ts.on)
 
 -- one or two trees, which begin with the off tree
 abbrev pub second_at : ℕ → ℕ → PlainTree × List ℕ → Result (PlainTrees × List ℕ) CertFault

@@ -1,13 +1,9 @@
 -- What the walk over a tree answers.
-use Rattle.std.specs.Prelude.{◌≡◌, ℕ, ◌+◌, List, map, Option, Result, Ok, Err}
-use Rattle.std.specs.Borrow.{Bor}
+use Rattle.std.specs.Prelude.{◌≡◌, ℕ, ◌+◌, List, Option, Result, Ok, Err}
 use Rattle.placement_programme.specs.Plain.{PlainSide}
 use Rattle.certificate_checker.specs.Nodes.{PlainTree, size}
-use Rattle.certificate_checker.specs.NodeLists.{PlainNode}
-use Rattle.certificate_checker.specs.NodeViews.{plain_node}
 use Rattle.certificate_checker.specs.Rules.{Holds, FirstWrong}
 use Rattle.certificate_checker.specs.Shows.{ShownBy, SideWrong, in_32_bits}
-use Rattle.certificate_checker.specs.declared.nodes.TreeNode.{TreeNode}
 use Rattle.certificate_checker.specs.declared.walking.Failing.{Failing}
 use Rattle.certificate_checker.specs.declared.fixings.Fixing.{Fixing}
 
@@ -24,12 +20,6 @@ abbrev pub Walks : PlainSide → ℕ → List Fixing → PlainTree → ℕ → �
 Walks s best marks t node depth (Ok next) =
     Holds s best marks t × (next ≡ in_32_bits (node + size t))
 Walks s best marks t node depth (Err f) = FailsIn s best marks t node depth f
-
--- the same of the tree that a list of nodes begins with, and those that are behind it
-abbrev pub WalksNodes : PlainSide → ℕ → List Fixing → PlainTree → List PlainNode → ℕ → ℕ → Result (ℕ × Bor (List TreeNode)) Failing → Type 0
-WalksNodes s best marks t rest node depth (Ok walked) =
-    Walks s best marks t node depth (Ok walked.0) × (map plain_node walked.1.now ≡ rest)
-WalksNodes s best marks t rest node depth (Err f) = FailsIn s best marks t node depth f
 
 -- what a side is answered
 abbrev pub SideAnswers : Option PlainSide → ℕ → Option PlainTree → Result (Unit {0}) Failing → Type 0

@@ -4,8 +4,7 @@ ghost use Rattle.certificate_checker.specs.Prices.{priced_at, credit_part, credi
 
 use crate::columns::scaled_gain;
 use crate::fixings::{Fixing, fixing_of};
-use crate::multipliers::product;
-use crate::prices::{Priced, price_now};
+use crate::prices::{Priced, price_now, product};
 use crate::row_wise::RowWise;
 use placement_programme::Side;
 

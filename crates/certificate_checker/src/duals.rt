@@ -1,13 +1,12 @@
 ghost use Rattle.std.specs.Prelude.{◌≡◌, ℕ, ◌+◌, ◌*◌, ◌^◌, ◌<◌, ◌≤◌, ◌↔◌, IsTrue, List, [], length, IfOk};
-ghost use Rattle.placement_programme.specs.{Bounds.{RowsWithin}, Sums.{sum_below}, Views.{plain_side}};
-ghost use Rattle.certificate_checker.specs.{Rules.{kept, moved, kept_at, DualHolds}, Prices.{price_in, priced_at, credits}, declared.fixings.Fixing.{Fixing}, Parts.{kept_part, moved_part, SumsHold}, RowWise.{rows_of, IsOfSide}, Loading.{IsLoaded}};
+ghost use Rattle.placement_programme.specs.{Sums.{sum_below}, Views.{plain_side}};
+ghost use Rattle.certificate_checker.specs.{Rules.{kept_at, DualHolds}, Prices.{priced_at, credits}, declared.fixings.Fixing.{Fixing}, RowWise.{rows_of, IsOfSide}, Loading.{IsLoaded}};
 
-use crate::columns::{row_count, scaled_gain, var_count};
+use crate::columns::{row_count, var_count};
 use crate::crediting::Pricing;
-use crate::fixings::{Fixing, fixing_of};
+use crate::fixings::Fixing;
 use crate::loading::{Loaded, load_rows};
-use crate::multipliers::bounded;
-use crate::prices::{Priced, price_of};
+use crate::prices::Priced;
 use crate::row_wise::RowWise;
 use crate::tallying::open_gains;
 use placement_programme::{Side, rows_ascend};
@@ -20,53 +19,6 @@ pub struct Weighed<'a> {
     pub by_row: &'a RowWise,
 }
 
-/// What a variable adds to the left and to the right side of a dual node's rule.
-#[derive(Drop)]
-struct TwoParts {
-    kept: u128,
-    moved: u128,
-}
-
-fn parts(fixing: Fixing, gain: u128, price: u128) -> TwoParts
-    ensures kept { result.kept ≡ kept fixing gain price }
-    ensures moved { result.moved ≡ moved fixing price }
-{
-    match fixing {
-        Fixing::Zero => TwoParts { kept: 0, moved: 0 },
-        Fixing::One => TwoParts {
-            kept: gain,
-            moved: price,
-        },
-        Fixing::Free => TwoParts {
-            kept: gain.saturating_sub(price),
-            moved: 0,
-        },
-    }
-}
-
-fn parts_at(
-    side: &Side,
-    marks: &[Fixing],
-    scale: u32,
-    multipliers: &[(u32, u64)],
-    number: usize,
-) -> TwoParts
-    requires number { number < length (plain_side side.now).vars }
-    requires marked { number < length marks.now }
-    requires scale { scale ≤ 65536 }
-    requires rows { RowsWithin 0 (length (plain_side side.now).rows) multipliers.now }
-    ensures kept { result.kept ≡ kept_part (plain_side side.now) marks.now scale (price_in (plain_side side.now) multipliers.now) number }
-    ensures moved { result.moved ≡ moved_part marks.now (price_in (plain_side side.now) multipliers.now) number }
-    ensures small { result.moved < 2 ^ 113 }
-{
-    let fixing = fixing_of(marks, number);
-    if fixing == Fixing::Zero {
-        return TwoParts { kept: 0, moved: 0 };
-    }
-    let price = price_of(side, multipliers, number);
-    parts(fixing, scaled_gain(side, scale, number), price)
-}
-
 /// The scaled bound.
 fn scaled_bound(side: &Side, best: u128, scale: u32) -> u128
     requires best { best ≤ 2 ^ 104 }
@@ -75,32 +27,6 @@ fn scaled_bound(side: &Side, best: u128, scale: u32) -> u128
     ensures small { result ≤ 2 ^ 121 }
 {
     u128::from(scale) * (best + side.fixed)
-}
-
-/// Whether the sums of a dual node keep its rule, for multiplied capacities of `bound`.
-fn sums_hold(
-    side: &Side,
-    best: u128,
-    marks: &[Fixing],
-    scale: u32,
-    bound: u128,
-    multipliers: &[(u32, u64)],
-) -> bool
-    requires best { best ≤ 2 ^ 104 }
-    requires marked { length (plain_side side.now).vars ≤ length marks.now }
-    requires scale { scale ≤ 65536 }
-    requires bound { bound < 2 ^ 113 }
-    requires rows { RowsWithin 0 (length (plain_side side.now).rows) multipliers.now }
-    ensures { IsTrue result ↔ SumsHold (plain_side side.now) best marks.now scale bound (price_in (plain_side side.now) multipliers.now) }
-{
-    let mut left = bound;
-    let mut right = scaled_bound(side, best, scale);
-    for number in 0..var_count(side) {
-        let parts = parts_at(side, marks, scale, multipliers, number);
-        left += parts.kept;
-        right += parts.moved;
-    }
-    left <= right
 }
 
 /// Whether a dual node keeps its rule, by what its rows make and what the variables gain that aren't fixed to zero.
@@ -129,26 +55,6 @@ pub(crate) fn loaded_holds(
     left <= scaled_bound(side, best, scale) + loaded.credit
 }
 
-/// Whether a dual node keeps its rule under these marks, of which each variable has one: its scale is from 1 to 65,536, its
-/// rows ascend in range, and by weak duality nothing gains more than `best`, which has the fixed cost taken off.
-pub(crate) fn dual_holds(
-    side: &Side,
-    best: u128,
-    marks: &[Fixing],
-    scale: u32,
-    multipliers: &[(u32, u64)],
-) -> bool
-    requires best { best ≤ 2 ^ 104 }
-    requires marked { length (plain_side side.now).vars ≤ length marks.now }
-    ensures { IsTrue result ↔ DualHolds (plain_side side.now) best marks.now scale multipliers.now }
-{
-    if scale == 0 || scale > 65536 || !rows_ascend(multipliers, side.rows.len()) {
-        return false;
-    }
-    let bound = bounded(&side.rows, multipliers);
-    sums_hold(side, best, marks, scale, bound, multipliers)
-}
-
 /// Prices that count for the stamp 0 alone.
 fn no_prices(alloc: Global, count: usize) -> Result<Vec<Priced>, AllocError>
     ensures count { IfOk result (λ prices. length prices.items ≡ count) }
@@ -157,8 +63,9 @@ fn no_prices(alloc: Global, count: usize) -> Result<Vec<Priced>, AllocError>
     vec![in alloc; Priced { stamp: 0, price: 0 }; count]
 }
 
-/// Whether a dual node keeps its rule, as `dual_holds` tells it: the prices are added up by the rows that the node names, and
-/// not looked for by variables.
+/// Whether a dual node keeps its rule under these marks, of which each variable has one: its scale is from 1 to 65,536, its
+/// rows ascend in range, and by weak duality nothing gains more than `best`, which has the fixed cost taken off. The prices are
+/// added up by the rows that the node names, and not looked for by variables.
 pub fn dual_holds_by_row(
     alloc: Global,
     weighed: &Weighed,

@@ -1,7 +1,3 @@
-ghost use Rattle.std.specs.Prelude.{◌≡◌};
-ghost use Rattle.certificate_checker.specs.declared.fault.CertFault.TheVariants.{Memory};
-
-use std::alloc::{AllocError, AllocFailed};
 use thiserror::Error;
 
 /// Why bytes spell no certificate: the first byte that breaks the grammar. Places stop at 2^32 - 1.
@@ -25,20 +21,4 @@ pub enum CertFault {
     /// No memory was left.
     #[error("out of memory")]
     Memory,
-}
-
-impl From<AllocError> for CertFault {
-    ghost from_gives = { λ _ fault. fault ≡ Memory };
-
-    fn from(_error: AllocError) -> CertFault {
-        CertFault::Memory
-    }
-}
-
-impl<T: Drop> From<AllocFailed<T>> for CertFault {
-    ghost from_gives = { λ _ fault. fault ≡ Memory };
-
-    fn from(_error: AllocFailed<T>) -> CertFault {
-        CertFault::Memory
-    }
 }

@@ -1,5 +1,5 @@
 ghost use Rattle.std.specs.Prelude.{◌≡◌, ◌≤◌, IfOk, length};
-ghost use Rattle.certificate_checker.specs.{Shows.{in_32_bits}, Reading.{GivesAlways, place, broken, cut_off, number_in, entry_at, one_byte, mark_at, flag_at}};
+ghost use Rattle.certificate_checker.specs.{Shows.{in_32_bits}, Reading.{GivesAlways, place, broken, cut_off, below_all, number_in, entry_at, one_byte, mark_at, flag_at}};
 
 use crate::digits::{NumberFault, number};
 use crate::fault::CertFault;
@@ -25,6 +25,18 @@ pub(crate) fn cut_off(total: usize) -> CertFault
 {
     CertFault::Truncated {
         at: total.min(0xffff_ffff) as u32,
+    }
+}
+
+/// What is wrong with a tag below the last level.
+pub(crate) fn below_all(total: usize, bytes: &[u8], tag: u8) -> CertFault
+    ensures { result ≡ below_all total bytes.now tag }
+{
+    let at = place(total, bytes);
+    if tag < 4 {
+        CertFault::TooDeep { at }
+    } else {
+        CertFault::BadNode { at }
     }
 }
 

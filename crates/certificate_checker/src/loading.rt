@@ -6,8 +6,7 @@ use crate::columns::{capacity_of_row, row_count};
 use crate::crediting::{Pricing, add_priced};
 use crate::fault::CertFault;
 use crate::fields::entry;
-use crate::multipliers::product;
-use crate::prices::Priced;
+use crate::prices::{Priced, product};
 
 /// What was read of a dual node's rows: the least number above all of them, the multiplied capacities, and the credits of all
 /// variables.

@@ -1,10 +1,5 @@
-ghost use Rattle.std.specs.Prelude.{◌≡◌, ◌^◌, ◌<◌, length};
-ghost use Rattle.placement_programme.specs.{Bounds.{RowsWithin}, Views.{plain_side}};
-ghost use Rattle.certificate_checker.specs.Prices.{price_in, priced_at};
-
-use crate::columns::weights_of_var;
-use crate::multipliers::priced;
-use placement_programme::Side;
+ghost use Rattle.std.specs.Prelude.{◌≡◌, ◌*◌, ◌^◌, ◌<◌, length};
+ghost use Rattle.certificate_checker.specs.Prices.{priced_at};
 
 /// A price that counts for its stamp alone: so the prices of one node need no clearing for the next.
 #[derive(Clone, Copy, Drop)]
@@ -15,14 +10,13 @@ pub struct Priced {
     pub price: u128,
 }
 
-/// The price of a variable by multipliers of rows, which ascend.
-pub(crate) fn price_of(side: &Side, multipliers: &[(u32, u64)], number: usize) -> u128
-    requires number { number < length (plain_side side.now).vars }
-    requires rows { RowsWithin 0 (length (plain_side side.now).rows) multipliers.now }
-    ensures value { result ≡ price_in (plain_side side.now) multipliers.now number }
-    ensures small { result < 2 ^ 113 }
+/// A weight or a capacity, times a multiplier.
+pub(crate) fn product(multiplier: u64, weight: u64) -> u128
+    requires { weight < 2 ^ 32 }
+    ensures value { result ≡ multiplier * weight }
+    ensures small { result < 2 ^ 96 }
 {
-    priced(multipliers, weights_of_var(side, number))
+    u128::from(multiplier) * u128::from(weight)
 }
 
 /// The price of a variable that counts for a stamp.

@@ -1,11 +1,9 @@
 ghost use Rattle.std.specs.Prelude.{◌≡◌, ◌^◌, ◌<◌, ◌≤◌, ◌↔◌, IsTrue, length};
 ghost use Rattle.placement_programme.specs.Views.{plain_side};
-ghost use Rattle.certificate_checker.specs.{Rules.{OverHolds, LeafHolds, BranchHolds, KeepsRule}, NodeLists.{node_tree}, NodeViews.{plain_node}};
+ghost use Rattle.certificate_checker.specs.{Rules.{OverHolds, LeafHolds, BranchHolds}};
 
 use crate::columns::{gain_of_var, var_count, weight_in_row};
-use crate::duals::dual_holds;
 use crate::fixings::{Fixing, fixing_of, is_free, is_one};
-use crate::nodes::TreeNode;
 use placement_programme::Side;
 
 /// Whether a branch fixes a variable that is free.
@@ -18,7 +16,7 @@ pub fn branch_holds(side: &Side, marks: &[Fixing], number: u32) -> bool
 }
 
 /// Whether the variables that are fixed to one exceed a row.
-pub(crate) fn over_holds(side: &Side, marks: &[Fixing], row: u32) -> bool
+pub fn over_holds(side: &Side, marks: &[Fixing], row: u32) -> bool
     requires { length (plain_side side.now).vars ≤ length marks.now }
     ensures { IsTrue result ↔ OverHolds (plain_side side.now) marks.now row }
 {
@@ -35,8 +33,8 @@ pub(crate) fn over_holds(side: &Side, marks: &[Fixing], row: u32) -> bool
     side.rows[place] < total
 }
 
-/// Whether all variables are fixed, and gain at most `best`.
-pub(crate) fn leaf_holds(side: &Side, best: u128, marks: &[Fixing]) -> bool
+/// Whether all variables are fixed, and gain at most `best`, which has the fixed cost taken off.
+pub fn leaf_holds(side: &Side, best: u128, marks: &[Fixing]) -> bool
     requires best { best ≤ 2 ^ 104 }
     requires marked { length (plain_side side.now).vars ≤ length marks.now }
     ensures { IsTrue result ↔ LeafHolds (plain_side side.now) best marks.now }
@@ -50,18 +48,4 @@ pub(crate) fn leaf_holds(side: &Side, best: u128, marks: &[Fixing]) -> bool
         }
     }
     total <= best + side.fixed
-}
-
-/// Whether a node keeps its own rule under these marks, with nothing said of those below it; `best` has the fixed cost taken off.
-pub fn keeps_rule(side: &Side, best: u128, marks: &[Fixing], node: &TreeNode) -> bool
-    requires best { best ≤ 2 ^ 104 }
-    requires marked { length (plain_side side.now).vars ≤ length marks.now }
-    ensures { IsTrue result ↔ KeepsRule (plain_side side.now) best marks.now (node_tree (plain_node node.now)) }
-{
-    match node {
-        TreeNode::Branch { var } => branch_holds(side, marks, *var),
-        TreeNode::Over { row } => over_holds(side, marks, *row),
-        TreeNode::Dual { scale, multipliers } => dual_holds(side, best, marks, *scale, multipliers),
-        TreeNode::Leaf => leaf_holds(side, best, marks),
-    }
 }

@@ -1,15 +1,26 @@
-ghost use Rattle.std.specs.Prelude.{◌≡◌, ◌^◌, ◌≤◌, length, IfSome, vec_capacity};
+ghost use Rattle.std.specs.Prelude.{◌≡◌, ℕ, ◌^◌, ◌≤◌, length, IfSome, MatchOption, vec_capacity};
 ghost use Rattle.placement_programme.specs.{Views.{plain_programme, plain_choice}, Programme.{side_for}};
-ghost use Rattle.certificate_checker.specs.{Reading.{choice_at, body_at, certificate_of}, Rooms.{vars_of, Chooses, BodyAnswers, RoomFits, HasSameRoom, verdict_for}, Views.{plain_verdict}};
+ghost use Rattle.certificate_checker.specs.{Shows.{IsAccepted}, Reading.{choice_at, body_at, certificate_of}, Rooms.{vars_of, Chooses, BodyAnswers, RoomFits, HasSameRoom, verdict_for}, Views.{plain_verdict}};
 
-use crate::checking::accepted;
 use crate::fault::CertFault;
 use crate::fields::{Part, flag, mark, place, small_number};
 use crate::rooms::Room;
 use crate::taking::take_vars;
 use crate::text_trees::{Outcomes, text_trees};
 use crate::verdict::Verdict;
-use placement_programme::{Choice, Programme};
+use placement_programme::{Choice, Programme, feasible, gain_of};
+
+/// What a choice gains, if it is feasible and that is at least 0.
+pub fn accepted(p: &Programme, choice: &Choice) -> Option<u128>
+    ensures accepted { MatchOption result ((best : ℕ) → IsAccepted (plain_programme p.now) (plain_choice choice.now) best → ⊥) (IsAccepted (plain_programme p.now) (plain_choice choice.now)) }
+    ensures small { IfSome result (λ best. best ≤ 2 ^ 104) }
+{
+    if !feasible(p, choice) {
+        return None;
+    }
+    let gain = gain_of(p, choice);
+    if gain < 0 { None } else { Some(gain as u128) }
+}
 
 /// How many variables a side of the programme has, 0 where it has no such side.
 fn side_vars(p: &Programme, on: bool) -> usize
@@ -99,10 +110,17 @@ fn check_body(
     }
 }
 
-/// Checks a certificate as it is read, once and without memory of its own: the verdict of `check` for the certificate that
-/// the bytes spell, or the first byte that breaks the grammar, also where a node before it fails. A number of the choice that
-/// is no variable makes it BadChoice. After Optimal and BestFound the room has the certificate's choice. The room is one
-/// that fits the programme, as `Room::new` makes it, and stays so.
+/// What the certificate that the bytes spell shows of a programme, or the first byte that breaks the grammar, also where a node
+/// before it fails:
+///
+/// the bytes 53 50 43 31; 00 for best found or 01 for optimal; 00 for off or 01 for on; the count of taken variables and
+/// their numbers, ascending; where optimal the count of trees, 1 or 2, and the off and the on tree. A tree is 00, a variable
+/// and the trees for zero and one; 01 and a row; 02, a scale, a count and so many rows, ascending, each with a multiplier; or
+/// 03. Numbers are unsigned LEB128 in the shortest form, below 2^64. A root has depth 0, and no node a depth over 4,096.
+///
+/// The text is checked as it is read, once and without memory of its own. A number of the choice that is no variable makes it
+/// BadChoice. After Optimal and BestFound the room has the certificate's choice. The room is one that fits the programme, as
+/// `Room::new` makes it, and stays so.
 #[tactic(auto, unfolding(crate::specs::Reading::certificate_of))]
 pub fn check_text(p: &Programme, bytes: &[u8], room: &mut Room) -> Result<Verdict, CertFault>
     requires { RoomFits p.now room.old }

@@ -134,7 +134,7 @@ fn push_mark(out: &mut Vec<u8>) -> Result<(), AllocError>
     out.extend_from_slice(&[0x53, 0x50, 0x43, 0x31])
 }
 
-/// The text of a certificate, which `read_tree` reads back where the certificate is within its ranges: ascending numbers
+/// The text of a certificate, which `check_text` reads back where the certificate is within its ranges: ascending numbers
 /// and rows, scales from 1 to 65,536, no depth over 4,096, and no on tree without an off tree.
 pub fn write_tree(alloc: Global, c: &Certificate) -> Result<Vec<u8>, AllocError>
     ensures { IfOk result (λ v. v.items ≡ text_of (plain_certificate c.now)) }

@@ -1,6 +1,6 @@
 ghost use Rattle.certificate_checker.specs.Rooms.{RoomFits};
 
-use crate::certificates::{tell_bytes, tell_searched};
+use crate::certificates::{tell_bytes, tell_file_bytes, tell_searched};
 use crate::reading::small_number;
 use crate::solving::{tell_solution, tell_value};
 use anyhow::{Context, Result, bail};
@@ -8,6 +8,7 @@ use branch_bound::fill;
 use certificate_checker::Room;
 use placement_programme::{Choice, Programme};
 use std::alloc::Global;
+use std::rt::Files;
 
 /// The side and the numbers of a choice, as `on 1 2`.
 fn choice(alloc: Global, words: &str) -> Result<Choice> {
@@ -21,10 +22,10 @@ fn choice(alloc: Global, words: &str) -> Result<Choice> {
     })
 }
 
-/// Answers a question: `solve NODES`, `choose NODES`, `trees NODES`, `search NODES`, `fill`, `value on|off NUMBERS`
-/// or `check BYTES`.
+/// Answers a question: `solve NODES`, `choose NODES`, `trees NODES`, `search NODES`, `fill`, `value on|off NUMBERS`,
+/// `check BYTES` or `file NAME`, which checks the bytes of a file.
 fn tell_answer(
-    rt: &(impl Print + AllocGlobal),
+    rt: &(impl Files + Print + AllocGlobal),
     p: &Programme,
     room: &mut Room,
     question: &str,
@@ -35,9 +36,10 @@ fn tell_answer(
     let (key, words) = question.split_once(' ').unwrap_or((question, ""));
     match key {
         "solve" | "choose" | "trees" => tell_solution(rt, p, small_number(words)?, key),
-        "search" => tell_searched(rt, p, small_number(words)?),
+        "search" => tell_searched(rt, small_number(words)?, p, room),
         "value" => tell_value(rt, p, &choice(rt.alloc(), words)?),
         "check" => tell_bytes(rt, words, p, room),
+        "file" => tell_file_bytes(rt, words, p, room),
         "fill" => {
             let filled = fill(rt.alloc(), p)?;
             println!(rt; "filled: {:?}", filled.take)?;
@@ -49,7 +51,7 @@ fn tell_answer(
 
 /// Answers the questions of a programme's text, in one room for its certificates; with no question, solves it.
 pub(crate) fn tell_answers(
-    rt: &(impl Print + AllocGlobal),
+    rt: &(impl Files + Print + AllocGlobal),
     p: &Programme,
     text: &str,
 ) -> Result<()> {

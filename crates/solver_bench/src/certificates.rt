@@ -2,12 +2,12 @@ ghost use Rattle.certificate_checker.specs.Rooms.{RoomFits};
 
 use anyhow::{Context, Result};
 use branch_bound::{Round, certify};
-use certificate_checker::{
-    CertFault, Certificate, Fixing, Room, Verdict, check, check_text, read_tree, write_tree,
-};
+use certificate_checker::{Room, Verdict, check_text, write_tree};
 use num_traits::Num;
 use placement_programme::Programme;
-use std::alloc::{AllocError, Global};
+use std::alloc::Global;
+use std::fs;
+use std::rt::Files;
 
 /// Appends what a word spells: a byte in hexadecimal, or `BYTES*N` for bytes without spaces between them N times.
 fn push_word(bytes: &mut Vec<u8>, word: &str) -> Result<()> {
@@ -30,48 +30,42 @@ fn bytes_of(alloc: Global, words: &str) -> Result<Vec<u8>> {
     Ok(bytes)
 }
 
-/// What a certificate is found to show; None where a side has more than eight variables.
-fn verdict(p: &Programme, c: &Certificate) -> Option<Verdict> {
-    let mut marks = [Fixing::Free; 8];
-    let fits = match &p.on {
-        Some(side) => side.vars.len() <= marks.len(),
-        None => true,
-    };
-    if !fits || p.off.vars.len() > marks.len() {
-        return None;
-    }
-    Some(check(p, c, &mut marks))
-}
-
-/// What is found with so many nodes, and what a check says of it.
+/// What is found with so many nodes, and what a check says of its certificate's text.
 pub(crate) fn tell_searched(
     rt: &(impl Print + AllocGlobal),
-    p: &Programme,
     nodes: u64,
-) -> Result<()> {
+    p: &Programme,
+    room: &mut Room,
+) -> Result<()>
+    requires { RoomFits p.now room.old }
+    ensures { RoomFits p.now room.new }
+{
     match certify(rt.alloc(), p, nodes)? {
         Round::Certified(c) => {
             let (on, take) = (c.choice.on, &c.choice.take);
-            println!(rt; "{nodes} nodes: on {on} {take:?}, {:?}", verdict(p, &c))?;
+            let text = write_tree(rt.alloc(), &c)?;
+            let verdict = check_text(p, &text, room);
+            println!(rt; "{nodes} nodes: on {on} {take:?}, {verdict:?}")?;
         }
         Round::Unfinished(_) => println!(rt; "{nodes} nodes: nothing")?,
     }
     Ok(())
 }
 
-/// What the bytes of a certificate are answered by the reader and the check behind it.
-fn answer(
-    alloc: Global,
-    p: &Programme,
-    bytes: &[u8],
-) -> Result<(Option<Verdict>, bool), CertFault> {
-    let c = read_tree(alloc, bytes)?;
-    let same = write_tree(alloc, &c)?.as_slice() == bytes;
-    Ok((verdict(p, &c), same))
+/// What a certificate's bytes are answered. An optimal or best found one has its choice told.
+fn tell_verdict(rt: &impl Print, bytes: &[u8], p: &Programme, room: &mut Room) -> Result<()>
+    requires { RoomFits p.now room.old }
+    ensures { RoomFits p.now room.new }
+{
+    let verdict = check_text(p, bytes, room);
+    println!(rt; "{} bytes: {verdict:?}", bytes.len())?;
+    if let Ok(Verdict::Optimal | Verdict::BestFound) = verdict {
+        println!(rt; "  {:?}", room.choice.take)?;
+    }
+    Ok(())
 }
 
-/// What a certificate's bytes are answered: the verdict of the check behind the reader, whether the certificate is
-/// written as these bytes, and the verdict of the check as it is read. An optimal or best found one has its choice told.
+/// What the bytes that some words spell are answered.
 pub(crate) fn tell_bytes(
     rt: &(impl Print + AllocGlobal),
     words: &str,
@@ -82,11 +76,19 @@ pub(crate) fn tell_bytes(
     ensures { RoomFits p.now room.new }
 {
     let bytes = bytes_of(rt.alloc(), words)?;
-    let answer = answer(rt.alloc(), p, &bytes);
-    let at_once = check_text(p, &bytes, room);
-    println!(rt; "{} bytes: {answer:?}, {at_once:?}", bytes.len())?;
-    if let Ok(Verdict::Optimal | Verdict::BestFound) = at_once {
-        println!(rt; "  {:?}", room.choice.take)?;
-    }
-    Ok(())
+    tell_verdict(rt, &bytes, p, room)
+}
+
+/// What the bytes of a file are answered.
+pub(crate) fn tell_file_bytes(
+    rt: &(impl Files + Print + AllocGlobal),
+    name: &str,
+    p: &Programme,
+    room: &mut Room,
+) -> Result<()>
+    requires { RoomFits p.now room.old }
+    ensures { RoomFits p.now room.new }
+{
+    let bytes = fs::read(rt, name)?;
+    tell_verdict(rt, &bytes, p, room)
 }

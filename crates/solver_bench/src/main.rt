@@ -13,7 +13,7 @@ use std::rt::Files;
 use std::{env, fs};
 
 /// Answers what the lines `ask ..` of a programme's text ask of it.
-fn tell_programme(rt: &(impl Print + AllocGlobal), text: &str) -> Result<()> {
+fn tell_programme(rt: &(impl Files + Print + AllocGlobal), text: &str) -> Result<()> {
     match read_programme(rt.alloc(), text) {
         Ok(programme) => tell_answers(rt, &programme, text),
         Err(error) => {

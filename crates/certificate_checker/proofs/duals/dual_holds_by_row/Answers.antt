@@ -1,5 +1,5 @@
 use Rattle.placement_programme.specs.Views.{plain_side}
-use Rattle.certificate_checker.proofs.CreditLemmas.{open_few}
+use Rattle.certificate_checker.proofs.TallyLemmas.{open_few}
 use Rattle.certificate_checker.proofs.duals.dual_holds_by_row.Goals as goal
 
 pub loaded_holds-holds-requires-clause-open_gain : goal.loaded_holds-holds-requires-clause-open_gain

@@ -1,4 +1,0 @@
-use Rattle.certificate_checker.proofs.reading.+nodes_at.Given as goal
-
-abbrev pub decreases-nodes_at : goal.decreases-nodes_at
-decreases-nodes_at l = l.levels

@@ -1,8 +1,0 @@
-use Rattle.std.proofs.Common.{◌≡◌, ◌-◌}
-use Rattle.certificate_checker.specs.Reading.{vars_at}
-use Rattle.certificate_checker.proofs.ManyLemmas.{with_front}
-use Rattle.certificate_checker.proofs.reading.vars.Given as goal
-
-abbrev pub invariant-loop : goal.invariant-loop
-invariant-loop l =
-    with_front l.vars.items (vars_at l.total (l.count - l.counter) l.least l.rest) ≡ vars_at l.total l.count 0 l.bytes
