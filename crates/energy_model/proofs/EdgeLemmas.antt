@@ -157,7 +157,7 @@ few_before edges a = few (length edges)
 abbrev pub edge_value : List Edge → ℕ → (ℕ → ℕ) → ℕ → ℕ
 edge_value edges a value j = value_from a value (edge_in edges j)
 
-other_from : (a : ℕ) (value : ℕ → ℕ) (e : Edge) → (e.from == a) ≡ false → value_from a value e ≡ 0
+pub other_from : (a : ℕ) (value : ℕ → ℕ) (e : Edge) → (e.from == a) ≡ false → value_from a value e ≡ 0
 other_from a value e other = rw other refl
 
 pub own_from : (a : ℕ) (value : ℕ → ℕ) (e : Edge) → e.from ≡ a → value_from a value e ≡ e.count * value e.to

@@ -2,7 +2,7 @@
 use Rattle.std.proofs.Common.{◌≡◌, ◌∙◌, ℕ, ◌+◌, ◌-◌, ◌*◌, ◌<◌, ◌≤◌, Bool, true, false, ◌&&◌, if◌then◌else◌, List, length, slice_index_or, refl, sym, ap, arith}
 use Rattle.std.proofs.lemmas.Nat.{mul-le}
 use Rattle.list_checks.specs.Sorted.{sum_below}
-use Rattle.list_checks.proofs.SumLemmas.{sum_same}
+use Rattle.list_checks.proofs.SumLemmas.{sum_zero, sum_same}
 use Rattle.object_graph.specs.declared.parts.Graph.{Graph}
 use Rattle.code_blocks.specs.declared.parts.Code.{Code}
 use Rattle.region_former.specs.declared.table.RegionTable.{RegionTable}
@@ -12,15 +12,15 @@ use Rattle.block_splitter.specs.declared.unit_kind.UnitKind.{UnitKind}
 use Rattle.block_splitter.specs.declared.unit_kind.UnitKind.TheVariants.{Plain, Upper, Branch, Jump, Call, Tail, Indirect, Linking, Halt}
 use Rattle.block_splitter.specs.Forms.{body_at, is_site, kind_of, holds_block, displaced_words}
 use Rattle.energy_model.specs.Energy.{may_stay}
-use Rattle.energy_model.specs.Copied.{arrivals_in, leaving, sum_in, pending, pending_to, came_to}
+use Rattle.energy_model.specs.Copied.{arrivals_in, value_from, edge_in, leaving, sum_in, pending, pending_to, came_to}
 use Rattle.energy_model.specs.Counts.{most_run, CountsCode}
 use Rattle.energy_model.specs.Overlay.{checks_in, first_runs, displaced_run, first_words, is_entered}
 use Rattle.energy_model.specs.OverlayCost.{CountsOverlay}
-use Rattle.energy_model.specs.Entering.{displaced_of, first_of, if_border, entered_in, stays_entered, IsEnteringBlock, AreEntering, AreEnteringAdded, AreFewEntering, IsEnteringCount}
+use Rattle.energy_model.specs.Entering.{IsBare, displaced_of, first_of, if_border, entered_in, stays_entered, IsEnteringBlock, AreEntering, AreEnteringAdded, AreFewEntering, IsEnteringCount}
 use Rattle.energy_model.specs.declared.entering_counts.EnteringSums.{EnteringSums}
 use Rattle.energy_model.proofs.CountsLemmas.{sum_times}
 use Rattle.energy_model.proofs.DisplacedLemmas.{sum_less}
-use Rattle.energy_model.proofs.PieceLemmas.{none_before, one_block, part_in, part_few, all_blocks}
+use Rattle.energy_model.proofs.PieceLemmas.{no_value, none_before, one_block, part_in, part_few, all_blocks}
 
 -- ---- bounds
 
@@ -127,6 +127,32 @@ few_stay c t g q range a code counts held below may =
     let few = few_stayed c t g q range code counts in
     let here : stays_entered c q t.border.items range a ≡ leaving q.edges.items a (entered_in t.border.items range) = rw may refl in
     omega (arith, part, few, here)
+
+-- a piece without such blocks
+pub none_entered : (c : Code) (g : Graph) (q : Profile) (borders : List Bool) (range : BlockRange) (n : ℕ) → IsBare borders range → AreEntering c g q borders range n (record { checks = 0; displaced = 0; first = 0; pending = 0; stayed = 0 })
+none_entered c g q borders range n bare =
+    record {
+      checks = sym (no_border (arrivals_in q));
+      displaced = sym (no_border (displaced_of c g q));
+      first = sym (no_border (first_of c q));
+      pending = sym (no_border (pending c q));
+      stayed = sym (sum_zero (λ a. if holds_block a range then stays_entered c q borders range a else 0) n (λ a below. if_zero (holds_block a range) (stays_entered c q borders range a) (λ held. none_stays a)));
+    }
+  where
+    if_zero : (t : Bool) (x : ℕ) → (t ≡ true → x ≡ 0) → (if t then x else 0) ≡ 0
+    if_zero true x none = none refl
+    if_zero false x none = refl
+
+    no_border : (f : ℕ → ℕ) → sum_in range (if_border borders f) n ≡ 0
+    no_border f = sum_zero (λ b. if holds_block b range then if_border borders f b else 0) n (λ b below. if_zero (holds_block b range) (if_border borders f b) (λ held. let test = bare b held in rw test refl))
+
+    not_in : (border held : Bool) → (held ≡ true → border ≡ false) → ◌≡◌ {A = ℕ} (if border && held then 1 else 0) 0
+    not_in true true none = absurd (let wrong = none refl in cc)
+    not_in true false none = refl
+    not_in false held none = refl
+
+    none_stays : (a : ℕ) → stays_entered c q borders range a ≡ 0
+    none_stays a = if_zero (may_stay (body_at c.blocks.items a).end) (leaving q.edges.items a (entered_in borders range)) (λ may. sum_zero (λ j. value_from a (entered_in borders range) (edge_in q.edges.items j)) (length q.edges.items) (λ j below. no_value a (entered_in borders range) (edge_in q.edges.items j) (not_in (slice_index_or borders (edge_in q.edges.items j).to false) (holds_block (edge_in q.edges.items j).to range) (bare (edge_in q.edges.items j).to))))
 
 -- ---- steps of the loop over the blocks of a piece
 

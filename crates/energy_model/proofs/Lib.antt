@@ -14,6 +14,7 @@ pub mod BaseLemmas
 pub mod CountsLemmas
 pub mod EdgeLemmas
 pub mod PieceLemmas
+pub mod StretchLemmas
 pub mod ChangeLemmas
 pub mod OverlayLemmas
 pub mod TogetherLemmas

@@ -21,7 +21,7 @@ use Rattle.energy_model.specs.declared.block_counts.BlockCounts.{BlockCounts}
 use Rattle.energy_model.specs.declared.block_counts.PieceSums.{PieceSums}
 use Rattle.energy_model.specs.Energy.{may_stay}
 use Rattle.energy_model.specs.Copied.{exit_words, leaving_words, arrivals_in, block_words, value_from, edge_in, leaving, sum_in, edge_words, stays_in, copied_words_of, stays_of, stayed, pending, came_in, values, edges_before}
-use Rattle.energy_model.specs.Counts.{most_run, CountsCode, AreBlockCounts, AreEdgeStarts, AreListed, AreSums, AreTerms, AreAdded, AreFew}
+use Rattle.energy_model.specs.Counts.{most_run, CountsCode, AreBlockCounts, AreEdgeStarts, AreListed, AreSums, AreTerms}
 use Rattle.energy_model.proofs.CopyLemmas.{straight_stays}
 use Rattle.energy_model.proofs.EdgeLemmas.{values_length, values_at}
 
@@ -129,7 +129,7 @@ closed_words sites inside next (end.Tail target) u closed = let none = tail_stay
 closed_words sites inside next (end.Indirect back) u closed = let none = indirect_stays inside next back u.instr in omega (arith, none)
 closed_words sites inside next end.Stop u closed = let none = straight_stays sites inside next u.at u.instr in omega (arith, none)
 
-last_is : (sites : ℕ → Bool) (b : Body) → 0 < length b.units → kind_of sites b (length b.units - 1) ≡ last_kind sites b.end (unit_in b (length b.units - 1))
+pub last_is : (sites : ℕ → Bool) (b : Body) → 0 < length b.units → kind_of sites b (length b.units - 1) ≡ last_kind sites b.end (unit_in b (length b.units - 1))
 last_is sites b some =
     let last : is_last b (length b.units - 1) ≡ true = grind (arith, nat_tests, some) in
     rw last refl
@@ -141,14 +141,14 @@ closed_edge c g range b to some closed =
     ap (λ (k : UnitKind). leaving_words inside (start_at c to) k body.end) (last_is (is_site g) body some)
     ∙ closed_words (is_site g) inside (start_at c to) body.end (unit_in body (length body.units - 1)) closed
 
-no_value : (a : ℕ) (value : ℕ → ℕ) (e : Edge) → value e.to ≡ 0 → value_from a value e ≡ 0
+pub no_value : (a : ℕ) (value : ℕ → ℕ) (e : Edge) → value e.to ≡ 0 → value_from a value e ≡ 0
 no_value a value e none = by_test (e.from == a)
   where
     by_test : (b : Bool) → (if b then e.count * value e.to else 0) ≡ 0
     by_test true = rw none (omega arith)
     by_test false = refl
 
-none_leave : (c : Code) (g : Graph) (q : Profile) (range : BlockRange) (b : ℕ) → 0 < length (body_at c.blocks.items b).units → may_stay (body_at c.blocks.items b).end ≡ false → leaving q.edges.items b (edge_words c g range b) ≡ 0
+pub none_leave : (c : Code) (g : Graph) (q : Profile) (range : BlockRange) (b : ℕ) → 0 < length (body_at c.blocks.items b).units → may_stay (body_at c.blocks.items b).end ≡ false → leaving q.edges.items b (edge_words c g range b) ≡ 0
 none_leave c g q range b some closed =
     sum_zero (λ j. value_from b (edge_words c g range b) (edge_in q.edges.items j)) (length q.edges.items) (λ j below.
     no_value b (edge_words c g range b) (edge_in q.edges.items j) (closed_edge c g range b (edge_in q.edges.items j).to some closed))
@@ -157,28 +157,28 @@ pub closed_are : (c : Code) (g : Graph) (q : Profile) (counts : BlockCounts) (ra
 closed_are c g q counts range b sums code blocks below closed is =
     let n = length c.blocks.items in
     let none = none_leave c g q range b (code.filled b below) closed in
-    let copied = listed_value (block_words c g q true) n b sums.copied counts.copied.items blocks.copied below is.copied in
+    let copied = listed_value (block_words c g q true) n b sums.copied counts.copied.items blocks.listed.copied below is.copied in
     record {
-      home = listed_value (block_words c g q false) n b sums.home counts.home.items blocks.home below is.home;
+      home = listed_value (block_words c g q false) n b sums.home counts.home.items blocks.listed.home below is.home;
       copied = omega (arith, copied, none);
       arrived = is.arrived;
       stayed = is.stayed ∙ rw closed refl;
-      pending = listed_value (pending c q) n b sums.pending counts.pending.items blocks.pending below is.pending;
+      pending = listed_value (pending c q) n b sums.pending counts.pending.items blocks.listed.pending below is.pending;
     }
 
 pub open_are : (c : Code) (g : Graph) (q : Profile) (counts : BlockCounts) (range : BlockRange) (b words stays : ℕ) (sums : PieceSums) → AreBlockCounts c g q counts → b < length c.blocks.items → may_stay (body_at c.blocks.items b).end ≡ true → AreListed q counts b sums → words ≡ leaving q.edges.items b (edge_words c g range b) → stays ≡ leaving q.edges.items b (stays_in range) → AreTerms c g q range b (record { home = sums.home; copied = sums.copied + words; arrived = sums.arrived; stayed = stays; pending = sums.pending })
 open_are c g q counts range b words stays sums blocks below may is left stay =
     let n = length c.blocks.items in
-    let copied = listed_value (block_words c g q true) n b sums.copied counts.copied.items blocks.copied below is.copied in
+    let copied = listed_value (block_words c g q true) n b sums.copied counts.copied.items blocks.listed.copied below is.copied in
     record {
-      home = listed_value (block_words c g q false) n b sums.home counts.home.items blocks.home below is.home;
+      home = listed_value (block_words c g q false) n b sums.home counts.home.items blocks.listed.home below is.home;
       copied = omega (arith, copied, left);
       arrived = is.arrived;
       stayed = stay ∙ rw may refl;
-      pending = listed_value (pending c q) n b sums.pending counts.pending.items blocks.pending below is.pending;
+      pending = listed_value (pending c q) n b sums.pending counts.pending.items blocks.listed.pending below is.pending;
     }
 
--- ---- steps of the loop over the blocks of a range
+-- ---- steps of loops over the blocks of a range
 
 pub one_block : (range : BlockRange) (f : ℕ → ℕ) (b old more new : ℕ) → holds_block b range ≡ true → old ≡ sum_in range f b → more ≡ f b → new ≡ old + more → new ≡ sum_in range f (b + 1)
 one_block range f b old more new held before here is =
@@ -199,31 +199,10 @@ no_sums c g q range =
       pending = sym (none_before range (pending c q));
     }
 
-pub sums_more : (c : Code) (g : Graph) (q : Profile) (range : BlockRange) (b : ℕ) (old more new : PieceSums) → holds_block b range ≡ true → AreSums c g q range b old → AreTerms c g q range b more → AreAdded old more new → AreSums c g q range (b + 1) new
-sums_more c g q range b old more new held before here is =
-    record {
-      home = one_block range (block_words c g q false) b old.home more.home new.home held before.home here.home is.home;
-      copied = one_block range (copied_words_of c g q range) b old.copied more.copied new.copied held before.copied here.copied is.copied;
-      arrived = one_block range (arrivals_in q) b old.arrived more.arrived new.arrived held before.arrived here.arrived is.arrived;
-      stayed = one_block range (stays_of c q range) b old.stayed more.stayed new.stayed held before.stayed here.stayed is.stayed;
-      pending = one_block range (pending c q) b old.pending more.pending new.pending held before.pending here.pending is.pending;
-    }
-
 pub part_few : (range : BlockRange) (f : ℕ → ℕ) (b n old more most : ℕ) → b < n → holds_block b range ≡ true → old ≡ sum_in range f b → more ≡ f b → sum_in range f n ≤ most → old + more ≤ most
 part_few range f b n old more most below held before here few =
     let part = part_in range f b n below held in
     omega (arith, part, before, here, few)
-
-pub few_sums : (c : Code) (g : Graph) (q : Profile) (range : BlockRange) (b : ℕ) (old more : PieceSums) → CountsCode c g q → holds_block b range ≡ true → b < length c.blocks.items → AreSums c g q range b old → AreTerms c g q range b more → AreFew (record { home = old.home + more.home; copied = old.copied + more.copied; arrived = old.arrived + more.arrived; stayed = old.stayed + more.stayed; pending = old.pending + more.pending })
-few_sums c g q range b old more counts held below before here =
-    let n = length c.blocks.items in
-    record {
-      home = part_few range (block_words c g q false) b n old.home more.home most_run below held before.home here.home (counts.home range);
-      copied = part_few range (copied_words_of c g q range) b n old.copied more.copied most_run below held before.copied here.copied (counts.copies range);
-      arrived = part_few range (arrivals_in q) b n old.arrived more.arrived most_run below held before.arrived here.arrived (counts.arrived range);
-      stayed = part_few range (stays_of c q range) b n old.stayed more.stayed (2 * most_run) below held before.stayed here.stayed (few_stays c g q range counts);
-      pending = part_few range (pending c q) b n old.pending more.pending most_run below held before.pending here.pending (counts.few_pending range);
-    }
 
 pub all_blocks : (range : BlockRange) (f : ℕ → ℕ) (n b sum : ℕ) → range.last < n → b ≡ range.last + 1 → sum ≡ sum_in range f b → sum ≡ sum_in range f n
 all_blocks range f n b sum below last is =

@@ -1,5 +1,5 @@
 -- What is asked of the tables of a profile, so that pieces can be counted, and what is counted of blocks and of pieces.
-use Rattle.std.specs.Prelude.{◌≡◌, ℕ, suc, ◌+◌, ◌*◌, ◌<◌, ◌≤◌, ◌==◌, Bool, true, false, List, length, slice_index_or, if◌then◌else◌}
+use Rattle.std.specs.Prelude.{◌≡◌, ℕ, suc, ◌+◌, ◌-◌, ◌*◌, ◌<◌, ◌≤◌, ◌==◌, Bool, true, false, List, length, slice_index_or, if◌then◌else◌}
 use Rattle.std.specs.List.{All, AllPairs}
 use Rattle.std.specs.List.Sorted.{IsStrictlyIncreasing}
 use Rattle.object_graph.specs.Lookups.{IsSomeGraph}
@@ -21,6 +21,7 @@ use Rattle.block_splitter.specs.Pieces.{IsRange}
 use Rattle.energy_model.specs.declared.block_counts.BlockCounts.{BlockCounts}
 use Rattle.energy_model.specs.declared.block_counts.PieceCounts.{PieceCounts}
 use Rattle.energy_model.specs.declared.block_counts.PieceSums.{PieceSums}
+use Rattle.energy_model.specs.Stretches.{AreStretches}
 use Rattle.energy_model.specs.Copied.{arrivals_in, block_words, count_to, edge_in, coming, sum_in, home_words, copied_words_of, copy_words_run, stays_of, stayed, pending, pending_inside, came_in, values, edges_before}
 
 -- ---- conditions
@@ -68,11 +69,15 @@ HasTarget c other = Prim.Unit {0}
 
 -- ---- results
 
-pub record AreBlockCounts (c : Code) (g : Graph) (q : Profile) (counts : BlockCounts) : Type 0 where
+pub record AreListedCounts (c : Code) (g : Graph) (q : Profile) (counts : BlockCounts) : Type 0 where
   pub home : counts.home.items ≡ values (block_words c g q false) (length c.blocks.items)
   pub copied : counts.copied.items ≡ values (block_words c g q true) (length c.blocks.items)
   pub pending : counts.pending.items ≡ values (pending c q) (length c.blocks.items)
   pub edges : counts.edges.items ≡ values (edges_before q.edges.items) (suc (length c.blocks.items))
+
+pub record AreBlockCounts (c : Code) (g : Graph) (q : Profile) (counts : BlockCounts) : Type 0 where
+  pub listed : AreListedCounts c g q counts
+  pub stretches : AreStretches c g q (length c.blocks.items - 15) counts.stretches.items
 
 pub record IsPieceCount (c : Code) (g : Graph) (q : Profile) (range : BlockRange) (counts : PieceCounts) : Type 0 where
   pub home : counts.home ≡ home_words c g q range

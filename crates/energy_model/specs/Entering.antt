@@ -1,12 +1,12 @@
 -- What is counted of the blocks of a piece by which control enters a region.
-use Rattle.std.specs.Prelude.{◌≡◌, ℕ, ◌+◌, ◌*◌, ◌≤◌, Bool, false, List, length, slice_index_or, if◌then◌else◌}
+use Rattle.std.specs.Prelude.{◌≡◌, ℕ, ◌+◌, ◌*◌, ◌≤◌, Bool, true, false, List, length, slice_index_or, if◌then◌else◌}
 use Rattle.list_checks.specs.Sorted.{sum_below}
 use Rattle.object_graph.specs.declared.parts.Graph.{Graph}
 use Rattle.code_blocks.specs.declared.parts.Code.{Code}
 use Rattle.region_former.specs.declared.table.RegionTable.{RegionTable}
 use Rattle.profile_runner.specs.declared.counts.Profile.{Profile}
 use Rattle.block_splitter.specs.declared.block_range.BlockRange.{BlockRange}
-use Rattle.block_splitter.specs.Forms.{body_at, unit_in, is_site, kind_of, displaced_words}
+use Rattle.block_splitter.specs.Forms.{body_at, unit_in, is_site, kind_of, holds_block, displaced_words}
 use Rattle.energy_model.specs.Energy.{may_stay}
 use Rattle.energy_model.specs.Copied.{arrivals_in, leaving, pending, sum_in, came_to}
 use Rattle.energy_model.specs.Counts.{most_run, CountsCode, AreBlockCounts}
@@ -28,6 +28,10 @@ first_of c q b = first_runs q b * (unit_in (body_at c.blocks.items b) 0).words
 -- where control enters a region by block `b`
 abbrev pub if_border : List Bool → (ℕ → ℕ) → ℕ → ℕ
 if_border borders value b = if slice_index_or borders b false then value b else 0
+
+-- and by no block of a piece
+abbrev pub IsBare : List Bool → BlockRange → Type 0
+IsBare borders piece = (b : ℕ) → holds_block b piece ≡ true → slice_index_or borders b false ≡ false
 
 -- block `b` of a piece is such a block
 abbrev pub entered_in : List Bool → BlockRange → ℕ → ℕ

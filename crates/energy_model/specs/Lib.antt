@@ -8,6 +8,7 @@ pub mod Scenes
 pub mod Priced
 pub mod Base
 pub mod Copied
+pub mod Stretches
 pub mod Counts
 pub mod Together
 pub mod Overlay

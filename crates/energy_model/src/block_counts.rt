@@ -9,6 +9,26 @@ pub struct BlockCounts {
     pub pending: Vec<u128>,
     /// Where the edges from each block begin in the profile; behind these, how many there are.
     pub edges: Vec<usize>,
+    /// What the sixteen blocks from each on ran, where there are so many.
+    pub stretches: Vec<Stretch>,
+}
+
+/// What sixteen blocks that follow one another ran, which hold for each piece of which they are and that no edge from
+/// them leaves.
+#[derive(Clone, Copy)]
+pub struct Stretch {
+    pub sums: PieceSums,
+    pub reach: Reach,
+}
+
+/// Where the edges lead from some blocks, where they may stay in a copy.
+#[derive(Clone, Copy)]
+pub struct Reach {
+    /// The numbers of the first and of the last block to which one leads.
+    pub first: u32,
+    pub last: u32,
+    /// Whether each leads where the end of its block says.
+    pub plain: bool,
 }
 
 /// What a piece ran.
@@ -24,7 +44,7 @@ pub struct PieceCounts {
 
 /// What some blocks of a piece ran.
 #[derive(Clone, Copy)]
-pub(crate) struct PieceSums {
+pub struct PieceSums {
     /// The words at home, and in a copy.
     pub home: u128,
     pub copied: u128,
@@ -33,4 +53,11 @@ pub(crate) struct PieceSums {
     pub arrived: u128,
     pub stayed: u128,
     pub pending: u128,
+}
+
+/// What the blocks of a piece ran from some block to the one before `end`.
+#[derive(Clone, Copy)]
+pub(crate) struct PiecePart {
+    pub sums: PieceSums,
+    pub end: usize,
 }

@@ -1,10 +1,11 @@
 ghost use Rattle.std.specs.Prelude.{◌≡◌, ◌+◌, ◌-◌, ◌<◌, ◌≤◌, ◌==◌, if◌then◌else◌, length, IfOk};
 ghost use Rattle.object_graph.specs.declared.parts.Graph.{Graph};
 ghost use Rattle.code_blocks.specs.Numbers.{start_at};
-ghost use Rattle.energy_model.specs.{Copied.{arrivals_in, block_words, coming, pending, values}, Counts.{CountsCode, AreComing, AreBlockCounts}};
+ghost use Rattle.energy_model.specs.{Copied.{arrivals_in, block_words, coming, pending, values}, Counts.{CountsCode, AreComing, AreListedCounts, AreBlockCounts}};
 
 use crate::block_counts::BlockCounts;
 use crate::edges::{coming, edge_starts};
+use crate::stretches::stretches;
 use crate::words::block_words;
 use code_blocks::Code;
 use object_graph::Graph;
@@ -80,6 +81,29 @@ fn pending_blocks(alloc: Global, code: &Code, profile: &Profile) -> Result<Vec<u
     all_pending(alloc, code, profile, &counts)
 }
 
+/// What each block of a program ran, with no stretches.
+fn list_blocks(
+    alloc: Global,
+    code: &Code,
+    graph: &Graph,
+    profile: &Profile,
+) -> Result<BlockCounts, AllocError>
+    requires { CountsCode code.now graph.now profile.now }
+    ensures { IfOk result (λ counts. AreListedCounts code.now graph.now profile.now counts) }
+{
+    let home = all_words(alloc, code, graph, profile, false)?;
+    let copied = all_words(alloc, code, graph, profile, true)?;
+    let pending = pending_blocks(alloc, code, profile)?;
+    let edges = edge_starts(alloc, &profile.edges, code.blocks.len())?;
+    Ok(BlockCounts {
+        home,
+        copied,
+        pending,
+        edges,
+        stretches: Vec::new(alloc),
+    })
+}
+
 /// What the blocks of a program ran.
 ///
 /// It fails only where no memory was left.
@@ -92,14 +116,7 @@ pub fn count_blocks(
     requires { CountsCode code.now graph.now profile.now }
     ensures { IfOk result (λ counts. AreBlockCounts code.now graph.now profile.now counts) }
 {
-    let home = all_words(alloc, code, graph, profile, false)?;
-    let copied = all_words(alloc, code, graph, profile, true)?;
-    let pending = pending_blocks(alloc, code, profile)?;
-    let edges = edge_starts(alloc, &profile.edges, code.blocks.len())?;
-    Ok(BlockCounts {
-        home,
-        copied,
-        pending,
-        edges,
-    })
+    let mut counts = list_blocks(alloc, code, graph, profile)?;
+    counts.stretches = stretches(alloc, code, profile, &counts)?;
+    Ok(counts)
 }

@@ -1,7 +1,7 @@
 ghost use Rattle.std.specs.Prelude.{◌≡◌, ◌+◌, ◌-◌, ◌*◌, ◌<◌, ◌≤◌, true, false, length, slice_index_or, if◌then◌else◌};
 ghost use Rattle.list_checks.specs.Sorted.{sum_below};
 ghost use Rattle.block_splitter.specs.{Forms.{body_at, holds_block}, Pieces.{IsRange}};
-ghost use Rattle.energy_model.specs.{Energy.{may_stay}, Copied.{arrivals_in, leaving, pending, pending_to}, Counts.{AreEdgeStarts, most_run}, Overlay.{is_entered}, Entering.{if_border, entered_in, stays_entered, AreRunTables, IsEnteringBlock, AreEntering, AreEnteringAdded, AreFewEntering, IsEnteringCount}};
+ghost use Rattle.energy_model.specs.{Energy.{may_stay}, Copied.{arrivals_in, leaving, pending, pending_to}, Counts.{AreEdgeStarts, most_run}, Overlay.{is_entered}, Entering.{IsBare, if_border, entered_in, stays_entered, AreRunTables, IsEnteringBlock, AreEntering, AreEnteringAdded, AreFewEntering, IsEnteringCount}};
 
 use crate::block_counts::BlockCounts;
 use crate::checks::checks_at;
@@ -13,6 +13,15 @@ use code_blocks::Code;
 use object_graph::Graph;
 use profile_runner::{Edge, Profile};
 use region_former::RegionTable;
+
+/// What is counted of no blocks.
+const NOTHING: EnteringSums = EnteringSums {
+    checks: 0,
+    displaced: 0,
+    first: 0,
+    pending: 0,
+    stayed: 0,
+};
 
 /// What pieces are counted from.
 #[derive(Drop)]
@@ -140,24 +149,44 @@ fn added(sums: &EnteringSums, more: &EnteringSums) -> EnteringSums
     }
 }
 
+/// What is counted of the blocks of a piece, block by block.
+fn block_sums(tables: &RunTables<'_>, range: &BlockRange) -> EnteringSums
+    requires tables { AreRunTables tables.now.code.now tables.now.graph.now tables.now.regions.now tables.now.profile.now tables.now.counts.now }
+    requires range { IsRange tables.now.code.now range.now }
+    ensures { AreEntering tables.now.code.now tables.now.graph.now tables.now.profile.now tables.now.regions.now.border.items range.now (length tables.now.code.now.blocks.items) result }
+{
+    let mut sums = NOTHING;
+    for b in range.first as usize..range.last as usize + 1 {
+        let more = entering_block(tables, range, b);
+        sums = added(&sums, &more);
+    }
+    sums
+}
+
+/// Whether control enters a region by a block of the piece.
+fn is_entered(regions: &RegionTable, range: &BlockRange) -> bool
+    requires { range.now.last < length regions.now.border.items }
+    ensures { result ≡ false → IsBare regions.now.border.items range.now }
+{
+    for b in range.first as usize..range.last as usize + 1 {
+        if regions.border[b] {
+            return true;
+        }
+    }
+    false
+}
+
 /// What is counted of the blocks of a piece.
 fn sums(tables: &RunTables<'_>, range: &BlockRange) -> EnteringSums
     requires tables { AreRunTables tables.now.code.now tables.now.graph.now tables.now.regions.now tables.now.profile.now tables.now.counts.now }
     requires range { IsRange tables.now.code.now range.now }
     ensures { AreEntering tables.now.code.now tables.now.graph.now tables.now.profile.now tables.now.regions.now.border.items range.now (length tables.now.code.now.blocks.items) result }
 {
-    let mut sums = EnteringSums {
-        checks: 0,
-        displaced: 0,
-        first: 0,
-        pending: 0,
-        stayed: 0,
-    };
-    for b in range.first as usize..range.last as usize + 1 {
-        let more = entering_block(tables, range, b);
-        sums = added(&sums, &more);
+    if is_entered(tables.regions, range) {
+        block_sums(tables, range)
+    } else {
+        NOTHING
     }
-    sums
 }
 
 /// The edge with which the run stopped, if it stays in the piece and leads to one of these blocks.

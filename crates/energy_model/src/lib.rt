@@ -17,12 +17,13 @@ mod objects;
 mod overlaying;
 mod piece_gains;
 mod pieces;
+mod stretches;
 mod switches;
 mod units;
 mod words;
 
 pub use base::base_of;
-pub use block_counts::{BlockCounts, PieceCounts};
+pub use block_counts::{BlockCounts, PieceCounts, PieceSums, Reach, Stretch};
 pub use blocks::count_blocks;
 pub use checks::count_checks;
 pub use copy_prices::{back_price, into_price, object_rounds};

@@ -1,17 +1,27 @@
-ghost use Rattle.std.specs.Prelude.{◌≡◌, ◌+◌, ◌-◌, ◌*◌, ◌<◌, ◌≤◌, true, length, slice_index_or};
+ghost use Rattle.std.specs.Prelude.{◌≡◌, ◌+◌, ◌-◌, ◌*◌, ◌<◌, ◌≤◌, true, length, slice_index_or, IsTrue};
 ghost use Rattle.std.specs.List.{AllPairs};
 ghost use Rattle.std.specs.List.Sorted.{IsStrictlyIncreasing};
 ghost use Rattle.profile_runner.specs.{Counts.{precedes}, declared.counts.Profile.{Profile}};
 ghost use Rattle.code_blocks.specs.{Early.{has}, Numbers.{starts_of, start_at}};
 ghost use Rattle.object_graph.specs.Lookups.{IsSomeGraph};
 ghost use Rattle.block_splitter.specs.{Forms.{body_of, body_at, is_site, kind_of, holds_block, begins_in, fall_out_words}, Pieces.{IsRange}};
-ghost use Rattle.energy_model.specs.{Energy.{may_stay}, Copied.{exit_words, leaving_words, leaving, edge_words, stays_in, sum_in, pending, pending_inside}, Counts.{CountsCode, LeadsToBlocks, MayCount, HasTarget, AreBlockCounts, AreListed, AreEdgeStarts, AreSums, AreTerms, AreAdded, AreFew, IsPieceCount, most_run}};
+ghost use Rattle.energy_model.specs.{Energy.{may_stay}, Stretches.{no_stretch, StaysIn, ArePartSums}, Copied.{exit_words, leaving_words, leaving, edge_words, stays_in, sum_in, pending, pending_inside}, Counts.{CountsCode, LeadsToBlocks, MayCount, HasTarget, AreBlockCounts, AreListed, AreEdgeStarts, AreSums, AreTerms, AreAdded, AreFew, IsPieceCount, most_run}};
 
-use crate::block_counts::{BlockCounts, PieceCounts, PieceSums};
+use crate::block_counts::{BlockCounts, PieceCounts, PiecePart, PieceSums, Reach};
+use crate::stretches::STRETCH;
 use block_splitter::{BlockRange, UnitKind, extent_of, kind_of};
 use code_blocks::{Block, Code, End};
 use object_graph::Graph;
 use profile_runner::{Edge, Profile};
+
+/// What no blocks ran.
+pub(crate) const NOTHING: PieceSums = PieceSums {
+    home: 0,
+    copied: 0,
+    arrived: 0,
+    stayed: 0,
+    pending: 0,
+};
 
 /// Whether the block that begins at an address is of a range.
 fn is_inside(code: &Code, range: &BlockRange, address: u32) -> bool
@@ -91,7 +101,7 @@ fn leaving_words(code: &Code, graph: &Graph, range: &BlockRange, block: &Block, 
     exit_words(code, range, &kind, next) + fall_words(code, range, &block.end, next)
 }
 
-fn start_of(code: &Code, b: usize) -> u32
+pub(crate) fn start_of(code: &Code, b: usize) -> u32
     requires { b < length code.now.blocks.items }
     ensures { result ≡ start_at code.now b }
 {
@@ -200,7 +210,7 @@ pub fn block_may_stay(code: &Code, b: usize) -> bool
 }
 
 /// What block `b` of a range ran, where it leads to no other of its copy.
-fn closed_terms(profile: &Profile, counts: &BlockCounts, b: usize) -> PieceSums
+pub(crate) fn closed_terms(profile: &Profile, counts: &BlockCounts, b: usize) -> PieceSums
     requires home { b < length counts.now.home.items }
     requires copied { b < length counts.now.copied.items }
     requires arrivals { b < length profile.now.arrivals.items }
@@ -267,7 +277,7 @@ fn terms(
     }
 }
 
-fn added(sums: &PieceSums, more: &PieceSums) -> PieceSums
+pub(crate) fn added(sums: &PieceSums, more: &PieceSums) -> PieceSums
     requires { AreFew record { home = sums.now.home + more.now.home; copied = sums.now.copied + more.now.copied; arrived = sums.now.arrived + more.now.arrived; stayed = sums.now.stayed + more.now.stayed; pending = sums.now.pending + more.now.pending } }
     ensures { AreAdded sums.now more.now result }
 {
@@ -277,6 +287,54 @@ fn added(sums: &PieceSums, more: &PieceSums) -> PieceSums
         arrived: sums.arrived + more.arrived,
         stayed: sums.stayed + more.stayed,
         pending: sums.pending + more.pending,
+    }
+}
+
+/// Whether some blocks lead to none outside a range.
+fn is_closed(range: &BlockRange, reach: &Reach) -> bool
+    ensures { IsTrue result → (reach.now.plain ≡ true) × (range.now.first ≤ reach.now.first) × (reach.now.last ≤ range.now.last) }
+{
+    reach.plain && range.first <= reach.first && reach.last <= range.last
+}
+
+/// Whether no edge from the sixteen blocks from `b` on leaves a range.
+fn may_skip(counts: &BlockCounts, range: &BlockRange, b: usize) -> bool
+    requires inside { b ≤ range.now.last }
+    requires below { range.now.last < length counts.now.stretches.items + 15 }
+    ensures { IsTrue result → StaysIn range.now b (slice_index_or counts.now.stretches.items b no_stretch).reach }
+{
+    if b + STRETCH > range.last as usize + 1 {
+        return false;
+    }
+    is_closed(range, &counts.stretches[b].reach)
+}
+
+/// What the next blocks of a range ran, from `b` on.
+fn part_from(
+    code: &Code,
+    graph: &Graph,
+    profile: &Profile,
+    counts: &BlockCounts,
+    range: &BlockRange,
+    b: usize,
+) -> PiecePart
+    requires counts { CountsCode code.now graph.now profile.now }
+    requires blocks { AreBlockCounts code.now graph.now profile.now counts.now }
+    requires range { MayCount code.now range.now }
+    requires held { holds_block b range.now ≡ true }
+    ensures sums { ArePartSums code.now graph.now profile.now range.now b result.end result.sums }
+    ensures more { b < result.end }
+    ensures within { result.end ≤ range.now.last + 1 }
+{
+    if may_skip(counts, range, b) {
+        return PiecePart {
+            sums: counts.stretches[b].sums,
+            end: b + STRETCH,
+        };
+    }
+    PiecePart {
+        sums: terms(code, graph, profile, counts, range, b),
+        end: b + 1,
     }
 }
 
@@ -293,16 +351,12 @@ fn sums(
     requires range { MayCount code.now range.now }
     ensures { AreSums code.now graph.now profile.now range.now (length code.now.blocks.items) result }
 {
-    let mut sums = PieceSums {
-        home: 0,
-        copied: 0,
-        arrived: 0,
-        stayed: 0,
-        pending: 0,
-    };
-    for b in range.first as usize..range.last as usize + 1 {
-        let more = terms(code, graph, profile, counts, range, b);
-        sums = added(&sums, &more);
+    let mut sums = NOTHING;
+    let mut b = range.first as usize;
+    while b <= range.last as usize {
+        let part = part_from(code, graph, profile, counts, range, b);
+        sums = added(&sums, &part.sums);
+        b = part.end;
     }
     sums
 }

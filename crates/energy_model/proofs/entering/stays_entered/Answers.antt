@@ -5,7 +5,7 @@ use Rattle.energy_model.proofs.entering.stays_entered.Goals as goal
 
 pub staying-requires-clause-starts : goal.staying-requires-clause-starts
 staying-requires-clause-starts c =
-    edge_starts_at c.args.tables.now.profile.now.edges.items (length c.args.tables.now.code.now.blocks.items) c.args.a c.args.tables.now.counts.now.edges.items c.requires.tables.blocks.edges c.requires.inside
+    edge_starts_at c.args.tables.now.profile.now.edges.items (length c.args.tables.now.code.now.blocks.items) c.args.a c.args.tables.now.counts.now.edges.items c.requires.tables.blocks.listed.edges c.requires.inside
 
 pub staying-requires-clause-small : goal.staying-requires-clause-small
 staying-requires-clause-small c =

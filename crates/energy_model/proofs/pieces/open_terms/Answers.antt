@@ -5,19 +5,19 @@ use Rattle.energy_model.proofs.pieces.open_terms.Goals as goal
 
 pub closed_terms-listed-requires-clause-home : goal.closed_terms-listed-requires-clause-home
 closed_terms-listed-requires-clause-home c =
-    listed (block_words c.args.code.now c.args.graph.now c.args.profile.now false) (length c.args.code.now.blocks.items) c.args.b c.args.counts.now.home.items c.requires.blocks.home c.requires.inside
+    listed (block_words c.args.code.now c.args.graph.now c.args.profile.now false) (length c.args.code.now.blocks.items) c.args.b c.args.counts.now.home.items c.requires.blocks.listed.home c.requires.inside
 
 pub closed_terms-listed-requires-clause-copied : goal.closed_terms-listed-requires-clause-copied
 closed_terms-listed-requires-clause-copied c =
-    listed (block_words c.args.code.now c.args.graph.now c.args.profile.now true) (length c.args.code.now.blocks.items) c.args.b c.args.counts.now.copied.items c.requires.blocks.copied c.requires.inside
+    listed (block_words c.args.code.now c.args.graph.now c.args.profile.now true) (length c.args.code.now.blocks.items) c.args.b c.args.counts.now.copied.items c.requires.blocks.listed.copied c.requires.inside
 
 pub closed_terms-listed-requires-clause-pending : goal.closed_terms-listed-requires-clause-pending
 closed_terms-listed-requires-clause-pending c =
-    listed (pending c.args.code.now c.args.profile.now) (length c.args.code.now.blocks.items) c.args.b c.args.counts.now.pending.items c.requires.blocks.pending c.requires.inside
+    listed (pending c.args.code.now c.args.profile.now) (length c.args.code.now.blocks.items) c.args.b c.args.counts.now.pending.items c.requires.blocks.listed.pending c.requires.inside
 
 pub words_leaving-leaving-requires-clause-starts : goal.words_leaving-leaving-requires-clause-starts
 words_leaving-leaving-requires-clause-starts c =
-    edge_starts_at c.args.profile.now.edges.items (length c.args.code.now.blocks.items) c.args.b c.args.counts.now.edges.items c.requires.blocks.edges c.requires.inside
+    edge_starts_at c.args.profile.now.edges.items (length c.args.code.now.blocks.items) c.args.b c.args.counts.now.edges.items c.requires.blocks.listed.edges c.requires.inside
 
 pub words_leaving-leaving-requires-clause-small : goal.words_leaving-leaving-requires-clause-small
 words_leaving-leaving-requires-clause-small c =
@@ -27,13 +27,13 @@ words_leaving-leaving-requires-clause-small c =
 pub overflow_add-result : goal.overflow_add-result
 overflow_add-result c =
     let few = few_leave c.args.code.now c.args.graph.now c.args.profile.now c.args.range.now c.args.b c.requires.counts c.requires.held c.requires.inside in
-    let copied = listed_value (block_words c.args.code.now c.args.graph.now c.args.profile.now true) (length c.args.code.now.blocks.items) c.args.b c.closed_terms-listed.result.copied c.args.counts.now.copied.items c.requires.blocks.copied c.requires.inside c.closed_terms-listed.ensures.copied in
+    let copied = listed_value (block_words c.args.code.now c.args.graph.now c.args.profile.now true) (length c.args.code.now.blocks.items) c.args.b c.closed_terms-listed.result.copied c.args.counts.now.copied.items c.requires.blocks.listed.copied c.requires.inside c.closed_terms-listed.ensures.copied in
     let left = c.words_leaving-leaving.ensures in
     omega (arith, few, copied, left)
 
 pub staying-requires-clause-starts : goal.staying-requires-clause-starts
 staying-requires-clause-starts c =
-    edge_starts_at c.args.profile.now.edges.items (length c.args.code.now.blocks.items) c.args.b c.args.counts.now.edges.items c.requires.blocks.edges c.requires.inside
+    edge_starts_at c.args.profile.now.edges.items (length c.args.code.now.blocks.items) c.args.b c.args.counts.now.edges.items c.requires.blocks.listed.edges c.requires.inside
 
 pub staying-requires-clause-small : goal.staying-requires-clause-small
 staying-requires-clause-small c =

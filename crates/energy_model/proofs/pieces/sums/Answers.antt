@@ -1,25 +1,35 @@
-use Rattle.std.proofs.Common.{◌≡◌, ◌+◌, true, arith}
-use Rattle.std.proofs.lemmas.Bool.Decides.{nat_tests}
-use Rattle.block_splitter.specs.Forms.{holds_block}
-use Rattle.energy_model.proofs.PieceLemmas.{no_sums, sums_more, few_sums, sums_all, held_inside}
+use Rattle.std.proofs.Common.{◌≡◌, ◌+◌, arith}
+use Rattle.energy_model.proofs.PieceLemmas.{no_sums, sums_all}
+use Rattle.energy_model.proofs.StretchLemmas.{parts_more, parts_few}
 use Rattle.energy_model.proofs.pieces.sums.Goals as goal
 
 pub loop-b-init : goal.loop-b-init
-loop-b-init c = no_sums c.args.code.now c.args.graph.now c.args.profile.now c.args.range.now
+loop-b-init c =
+    let ordered = c.requires.range.is_range.ordered in
+    record {
+      from = omega arith;
+      to = omega (arith, ordered);
+      sums = no_sums c.args.code.now c.args.graph.now c.args.profile.now c.args.range.now;
+    }
 
 pub added-sums-requires : goal.added-sums-requires
 added-sums-requires c =
-    let held : holds_block c.loop-b.b c.args.range.now ≡ true = grind (arith, nat_tests) in
-    few_sums c.args.code.now c.args.graph.now c.args.profile.now c.args.range.now c.loop-b.b c.loop-b.sums c.terms-more.result c.requires.counts held
-    (held_inside c.args.code.now c.args.range.now c.loop-b.b c.requires.range.is_range held) c.loop-b.invariant c.terms-more.ensures
+    let below = c.requires.range.is_range.below in
+    let within = c.part_from-part.ensures.within in
+    parts_few c.args.code.now c.args.graph.now c.args.profile.now c.args.range.now c.loop-b.b c.part_from-part.result.end c.loop-b.sums c.part_from-part.result.sums c.requires.counts (omega (arith, below, within)) c.loop-b.invariant.sums c.part_from-part.ensures.sums
 
 pub loop-b-preserved : goal.loop-b-preserved
 loop-b-preserved c =
-    let held : holds_block c.loop-b.b c.args.range.now ≡ true = grind (arith, nat_tests) in
-    sums_more c.args.code.now c.args.graph.now c.args.profile.now c.args.range.now c.loop-b.b c.loop-b.sums c.terms-more.result c.added-sums.result held c.loop-b.invariant c.terms-more.ensures c.added-sums.ensures
+    let from = c.loop-b.invariant.from in
+    let more = c.part_from-part.ensures.more in
+    record {
+      from = omega (arith, from, more);
+      to = c.part_from-part.ensures.within;
+      sums = parts_more c.args.code.now c.args.graph.now c.args.profile.now c.args.range.now c.loop-b.b c.part_from-part.result.end c.loop-b.sums c.part_from-part.result.sums c.added-sums.result c.loop-b.invariant.sums c.part_from-part.ensures.sums c.added-sums.ensures;
+    }
 
 pub returns : goal.returns
 returns c =
-    let ordered = c.requires.range.is_range.ordered in
-    let done : c.loop-b.b ≡ c.args.range.now.last + 1 = grind (arith, ordered) in
-    sums_all c.args.code.now c.args.graph.now c.args.profile.now c.args.range.now c.loop-b.b c.loop-b.sums c.requires.range.is_range.below done c.loop-b.invariant
+    let to = c.loop-b.invariant.to in
+    let done : c.loop-b.b ≡ c.args.range.now.last + 1 = grind (arith, to) in
+    sums_all c.args.code.now c.args.graph.now c.args.profile.now c.args.range.now c.loop-b.b c.loop-b.sums c.requires.range.is_range.below done c.loop-b.invariant.sums

@@ -1,0 +1,7 @@
+use Rattle.object_graph.specs.declared.parts.Graph.{Graph}
+use Rattle.energy_model.specs.Counts.{CountsCode, AreListedCounts}
+use Rattle.energy_model.specs.Stretches.{AreWholeSums}
+use Rattle.energy_model.proofs.stretches.whole_sums.Given as goal
+
+abbrev pub invariant-loop-k : goal.invariant-loop-k
+invariant-loop-k l = (g : Graph) → CountsCode l.code g l.profile → AreListedCounts l.code g l.profile l.counts → AreWholeSums l.code g l.profile l.b l.k l.sums
