@@ -11,3 +11,4 @@ pub mod RunLemmas
 pub mod StepLemmas
 pub mod FindLemmas
 pub mod LoopLemmas
+pub mod TakingLemmas

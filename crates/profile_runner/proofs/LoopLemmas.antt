@@ -1,5 +1,5 @@
 -- A run from its first transition to its last.
-use Rattle.std.proofs.Common.{◌≡◌, ◌∙◌, ℕ, ◌+◌, ◌*◌, ◌<◌, ◌≤◌, true, false, List, [], length, Option, Some, None, Ok, Err, refl, sym, subst, arith}
+use Rattle.std.proofs.Common.{◌≡◌, ◌∙◌, ℕ, ◌<◌, ◌≤◌, true, false, List, [], length, Option, Some, None, Ok, Err, refl, sym, subst, arith}
 use Rattle.code_blocks.specs.Early.{has}
 use Rattle.code_blocks.proofs.LeaderLemmas.{indirect_is_leader}
 use Rattle.code_blocks.specs.Numbers.{starts_of}
@@ -60,15 +60,11 @@ so_far_first starts regions last size first p m t is new at =
 
 -- ---- before a transition
 
-few_units : (coming : Option ℕ) (units pc : ℕ) → pc + 4 < 4294967296 → (coming ≡ None → 4 * units ≤ pc) → coming ≡ None → units < 4294967295
-few_units coming units pc below behind none = let le = behind none in omega (arith, below, le)
-
 pub room_now : (starts regions : List ℕ) (last size : ℕ) (p : Program) (s : SourceState) (i : ℕ) (m : Source) (t : Tally) (coming next : Option ℕ) → IsSoFar starts regions last size p s i m t coming → (state_of p m).outcome ≡ GoesOn → i < 18446744073709551615 → length regions ≡ length starts → ((k : ℕ) → region_of regions k ≤ last) → HasRoom regions coming next t
 room_now starts regions last size p s i m t coming next far going few same fit =
     let now = going_is (state_of p m).outcome (IsComing starts (state_of p m).pc far.transitions t coming) going far.next in
     let less = far.few in
     room starts regions last size (state_of p m).pc far.transitions t coming next far.tally (omega (arith, less, few)) same fit now.at
-    (few_units coming t.units (state_of p m).pc m.below now.behind)
 
 -- ---- behind the last
 

@@ -1,5 +1,5 @@
 -- Fewer transitions than 2 ^ 64 leave room for one more in each count.
-use Rattle.std.proofs.Common.{◌≡◌, ℕ, suc, ◌<◌, ◌≤◌, true, false, List, length, slice_index_or, Option, Some, None, Vec, refl, arith}
+use Rattle.std.proofs.Common.{◌≡◌, ℕ, suc, ◌<◌, ◌≤◌, true, false, List, length, slice_index_or, Option, Some, None, Vec, arith}
 use Rattle.std.specs.Global.{Global}
 use Rattle.std.proofs.lemmas.List.{length-map}
 use Rattle.profile_runner.specs.Transition.{Transition}
@@ -38,9 +38,9 @@ change_room starts regions last size before after ms t is few first second =
       enter = list_room t.changes.enters.items (suc last) after (length ms) _ is.enters_are high (is.few_enters after high) few;
     }
 
-begin_room : (starts regions : List ℕ) (last size pc : ℕ) (ms : List Transition) (t : Tally) (coming : Option ℕ) → IsTally starts regions last size ms t → length ms < 18446744073709551615 → length regions ≡ length starts → ((k : ℕ) → region_of regions k ≤ last) → IsBlockAt starts pc coming → (coming ≡ None → t.units < 4294967295) → HasRoomToBegin regions coming t
-begin_room starts regions last size pc ms t None is few same fit at units = units refl
-begin_room starts regions last size pc ms t (Some k) is few same fit at units =
+begin_room : (starts regions : List ℕ) (last size pc : ℕ) (ms : List Transition) (t : Tally) (coming : Option ℕ) → IsTally starts regions last size ms t → length ms < 18446744073709551615 → length regions ≡ length starts → ((k : ℕ) → region_of regions k ≤ last) → IsBlockAt starts pc coming → HasRoomToBegin regions coming t
+begin_room starts regions last size pc ms t None is few same fit at = tt
+begin_room starts regions last size pc ms t (Some k) is few same fit at =
     let below = at.2 in
     let count = is.arrivals_are.size_is in
     record {
@@ -76,11 +76,10 @@ lead_room starts regions last size block ms t (Some b) is few below =
       edge = few_of 0 block (length starts) (length ms) (edge_row (plain_edges t.edges.items) block) from few;
     }
 
-pub room : (starts regions : List ℕ) (last size pc : ℕ) (ms : List Transition) (t : Tally) (coming next : Option ℕ) → IsTally starts regions last size ms t → length ms < 18446744073709551615 → length regions ≡ length starts → ((k : ℕ) → region_of regions k ≤ last) → IsBlockAt starts pc coming → (coming ≡ None → t.units < 4294967295) → HasRoom regions coming next t
-room starts regions last size pc ms t coming next is few same fit at units =
+pub room : (starts regions : List ℕ) (last size pc : ℕ) (ms : List Transition) (t : Tally) (coming next : Option ℕ) → IsTally starts regions last size ms t → length ms < 18446744073709551615 → length regions ≡ length starts → ((k : ℕ) → region_of regions k ≤ last) → IsBlockAt starts pc coming → HasRoom regions coming next t
+room starts regions last size pc ms t coming next is few same fit at =
     record {
-      step = let steps = is.steps_are in omega (arith, steps, few);
-      begin = begin_room starts regions last size pc ms t coming is few same fit at units;
+      begin = begin_room starts regions last size pc ms t coming is few same fit at;
       accesses = access_room starts regions last size (region_now regions coming t.region) ms t is few (region_fits regions last t.region coming fit is.region_fits);
       lead = lead_room starts regions last size (block_now coming t.block) ms t next is few (number_fits starts pc t.block coming at is.block_fits);
     }

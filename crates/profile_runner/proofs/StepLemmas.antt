@@ -15,6 +15,7 @@ use Rattle.profile_runner.specs.Transition.{Transition, is_going}
 use Rattle.profile_runner.specs.Standing.{region_of}
 use Rattle.profile_runner.specs.Tallies.{IsBlockAt, IsNext, units_now}
 use Rattle.profile_runner.specs.Running.{IsMachineOf, IsComing, WhileGoing, IsSoFar, IsCounted}
+use Rattle.profile_runner.specs.Taking.{KnowsBlocks}
 use Rattle.profile_runner.specs.declared.tally.Tally.{Tally}
 use Rattle.profile_runner.proofs.TransitionLemmas.{one_longer}
 use Rattle.profile_runner.proofs.TallyLemmas.{IsOneMore, tally_more}
@@ -42,10 +43,6 @@ going_by (Trapped pc) test = cc
 going_by (AddressFault pc why) test = cc
 
 -- ---- the blocks of the program
-
-pub record KnowsBlocks (starts : List ℕ) (p : Program) : Type 0 where
-  pub blocks : (a : ℕ) → p.is_block a ≡ has starts a
-  pub reached : (a : ℕ) → p.is_reached a ≡ true → p.is_block a ≡ true
 
 pub knows : (starts : List ℕ) (m : Source) (p : Program) → IsMachineOf starts m → IsProgram p m → KnowsBlocks starts p
 knows starts m p of is =

@@ -6,4 +6,5 @@ pub mod Counts
 pub mod Tallies
 pub mod Tally
 pub mod Running
+pub mod Taking
 pub mod Laws

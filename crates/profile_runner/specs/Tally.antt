@@ -29,7 +29,7 @@ pub record HasRoomForBlock (regions : List ℕ) (k : ℕ) (t : Tally) : Type 0 w
   pub change : HasRoomToChange t.changes t.region (entered t.region (region_of regions k))
 
 abbrev pub HasRoomToBegin : List ℕ → Option ℕ → Tally → Type 0
-HasRoomToBegin regions None t = t.units < 4294967295
+HasRoomToBegin regions None t = Unit {0}
 HasRoomToBegin regions (Some k) t = HasRoomForBlock regions k t
 
 pub record HasRoomToAccess (region : ℕ) (reads writes : List (List ℕ)) : Type 0 where
@@ -49,7 +49,6 @@ HasRoomToLead None block rows = Unit {0}
 HasRoomToLead (Some b) block rows = HasRoomForEdge block rows
 
 pub record HasRoom (regions : List ℕ) (coming next : Option ℕ) (t : Tally) : Type 0 where
-  pub step : t.steps < 18446744073709551615
   pub begin : HasRoomToBegin regions coming t
   pub accesses : HasRoomToAccess (region_now regions coming t.region) (plain_rows t.reads.items) (plain_rows t.writes.items)
   pub lead : HasRoomToLead next (block_now coming t.block) (plain_edges t.edges.items)
@@ -68,6 +67,11 @@ pub record HasBegun (regions : List ℕ) (coming : Option ℕ) (old new : Tally)
   pub arrivals_add : Adds old.arrivals.items new.arrivals.items (is_coming coming)
   pub changes_add : HasChanged old.changes new.changes old.region new.region
   pub rest : new ≡ record old { arrivals = new.arrivals; changes = new.changes; block = new.block; units = new.units; region = new.region }
+
+-- the same of all but the units, where a block begins
+abbrev pub HasEntered : List ℕ → Option ℕ → Tally → Tally → Type 0
+HasEntered regions None old new = new ≡ old
+HasEntered regions (Some k) old new = HasBegun regions (Some k) old new
 
 pub record HasAccessed (access : Option Access) (old new : Tally) : Type 0 where
   pub reads_add : AddsIn (plain_rows old.reads.items) (plain_rows new.reads.items) (is_access_in false access old.region)

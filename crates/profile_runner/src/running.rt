@@ -1,8 +1,8 @@
-ghost use Rattle.std.specs.Prelude.{◌≡◌, ◌<◌, ℕ, List, Option, true, length, IfOk, OnOk};
+ghost use Rattle.std.specs.Prelude.{◌≡◌, ◌+◌, ◌-◌, ◌<◌, ◌≤◌, ℕ, List, Option, true, length, IfOk, OnOk};
 ghost use Rattle.std.specs.List.Sorted.{IsStrictlyIncreasing};
 ghost use Rattle.code_blocks.specs.{Early.{has}, Numbers.{starts_of}};
 ghost use Rattle.object_machine.specs.{Program.{Program}, Machine.{state_of, IsProgram}};
-ghost use Rattle.profile_runner.specs.{Tallies.{IsBlockAt}, Tally.{HasRoom, IsNew}, Running.{HasStarted, fault_of, IsMachineOf, IsCounted, IsAll, ReportsOfRun}};
+ghost use Rattle.profile_runner.specs.{Counts.{plain_rows}, Tallies.{IsBlockAt}, Tally.{HasRoomToAccess, IsNew}, Running.{HasStarted, fault_of, IsMachineOf, IsAll, ReportsOfRun}, Taking.{Course, timed, units_before, IsTaken, MayTake, AreTaken, MayCount, AreCounted}};
 
 use crate::counts::Profile;
 use crate::fault::ProfileFault;
@@ -31,7 +31,8 @@ pub struct Parts<'a> {
 /// Runs a program for `n` steps, or until it ends, and counts what happens. The machine must be at the start of
 /// a block, as it is at the start; the parts are those of its program.
 ///
-/// Each step takes the time of a look-up among the edges from its block, where it ends that, and little else.
+/// A step inside a block counts its access and nothing else; one that ends a block takes the time of a look-up among
+/// the edges from it, and little else.
 ///
 /// It fails with `AddressFault` exactly where the run meets one within `n` steps.
 pub fn profile(
@@ -96,42 +97,128 @@ fn take_steps(
     ensures program { OnOk result ((p : Program) → IsProgram p source.old → IsProgram p source.new) }
     ensures run { OnOk result ((p : Program) (size : ℕ) → IsProgram p source.old → IsNew (length parts.now.code.now.blocks.items) size parts.now.regions.now.count first tally.old → IsAll (starts_of parts.now.code.now) parts.now.regions.now.of_block.items parts.now.regions.now.count size p (state_of p source.old) (state_of p source.new) n tally.new) }
 {
-    let regions = parts.regions;
-    let mut coming = Some(first);
-    for taken in 0..n {
-        if !is_going(&source.outcome()) {
-            break;
-        }
-        tell_steps(progress, taken, n);
-        coming = count_step(tally, source, regions, coming)?;
-    }
+    let (steps, units) = take_blocks(tally, source, parts, first, n, progress)?;
+    tally.steps = steps;
+    tally.units = units as u32;
     Ok(())
 }
 
-/// Tells how far a run is, behind every so many steps.
+/// Takes these steps. Tells how many it took, and how many of them since the last block began; the counters of `tally` have
+/// all else.
+fn take_blocks(
+    tally: &mut Tally,
+    source: &mut Source,
+    parts: &Parts<'_>,
+    first: u32,
+    n: u64,
+    progress: &dyn Progress,
+) -> Result<(u64, u64), AllocError>
+    requires machine { IsMachineOf (starts_of parts.now.code.now) source.old }
+    requires regions { length parts.now.regions.now.of_block.items ≡ length parts.now.code.now.blocks.items }
+    requires begins { (p : Program) → IsProgram p source.old → IsBlockAt (starts_of parts.now.code.now) (state_of p source.old).pc (Some first) }
+    requires nothing { (size : ℕ) × IsNew (length parts.now.code.now.blocks.items) size parts.now.regions.now.count first tally.old }
+    ensures short { IfOk result (λ r. r.1 ≤ 1073741824) }
+    ensures program { OnOk result ((p : Program) → IsProgram p source.old → IsProgram p source.new) }
+    ensures run { IfOk result (λ r. (p : Program) (size : ℕ) → IsProgram p source.old → IsNew (length parts.now.code.now.blocks.items) size parts.now.regions.now.count first tally.old → IsAll (starts_of parts.now.code.now) parts.now.regions.now.of_block.items parts.now.regions.now.count size p (state_of p source.old) (state_of p source.new) n (timed r.0 r.1 tally.new)) }
+{
+    let mut coming = Some(first);
+    let mut left = n;
+    let mut since = n;
+    let mut due = n;
+    while left > 0 {
+        if !is_going(&source.outcome()) {
+            break;
+        }
+        due = tell_steps(progress, due, left, n);
+        since = begun_since(coming, left, since);
+        let (rest, next) = count_units(tally, source, parts.regions, coming, left)?;
+        left = rest;
+        coming = next;
+    }
+    Ok((n - left, since - left))
+}
+
+/// Tells how far a run is, if that was due with so many steps left or more. Tells when it is due again.
 #[inline(always)]
-fn tell_steps(progress: &dyn Progress, taken: u64, most: u64) {
-    if taken % TOLD_STEPS == 0 {
-        progress.steps(taken, most);
+fn tell_steps(progress: &dyn Progress, due: u64, left: u64, most: u64) -> u64
+    requires { left ≤ most }
+{
+    if left > due {
+        return due;
+    }
+    progress.steps(most - left, most);
+    left.saturating_sub(TOLD_STEPS)
+}
+
+/// How many steps were left when the block of the next unit began: these, if it begins now.
+#[inline(always)]
+fn begun_since(coming: Option<u32>, left: u64, since: u64) -> u64
+    requires { left ≤ since }
+    ensures { result ≡ left + units_before coming (since - left) }
+{
+    match coming {
+        Some(_) => left,
+        None => since,
     }
 }
 
-/// Takes a step and counts it. It tells the block that begins behind it, if the machine goes on and one does;
-/// `coming` is the one that begins with it.
+/// Takes steps until one leads to a block, ends the machine, or is the last of `most`, and counts what they do. Tells how
+/// many are left, and the block that begins behind them, if the machine goes on and one does; `coming` is the one that
+/// begins with the first.
 #[inline(always)]
-fn count_step(
+fn count_units(
     tally: &mut Tally,
     source: &mut Source,
     regions: &RegionTable,
     coming: Option<u32>,
-) -> Result<Option<u32>, AllocError>
-    requires { (next : Option ℕ) → HasRoom regions.now.of_block.items coming next tally.old }
-    ensures { IfOk result (λ next. (p : Program) (starts : List ℕ) → IsProgram p source.old → IsStrictlyIncreasing starts → ((a : ℕ) → p.is_block a ≡ has starts a) → IsCounted starts regions.now.of_block.items p source.old source.new coming next tally.old tally.new) }
+    most: u64,
+) -> Result<(u64, Option<u32>), AllocError>
+    requires { (c : Course) × ((i : ℕ) × ((u : ℕ) × MayCount c regions.now.of_block.items i u most source.old tally.old coming)) }
+    ensures { IfOk result (λ r. (c : Course) (i u : ℕ) → MayCount c regions.now.of_block.items i u most source.old tally.old coming → AreCounted c i (units_before coming u) most source.new tally.new r.0 r.1) }
 {
-    let event = source.step()?;
-    let next = next_block(source, &event.outcome);
-    match tally.count(regions, coming, event.access, next) {
-        Ok(()) => Ok(next),
+    tally.begin(regions, coming);
+    let (left, next) = take_units(tally, source, most)?;
+    match tally.lead(next) {
+        Ok(()) => Ok((left, next)),
         Err(error) => Err(error),
     }
+}
+
+/// Takes these steps, and counts their accesses.
+#[inline(always)]
+fn take_units(
+    tally: &mut Tally,
+    source: &mut Source,
+    most: u64,
+) -> Result<(u64, Option<u32>), AllocError>
+    requires { (c : Course) × ((i : ℕ) × ((u : ℕ) × MayTake c i u most source.old tally.old)) }
+    ensures { IfOk result (λ r. (c : Course) (i u : ℕ) → MayTake c i u most source.old tally.old → AreTaken c i u most source.new tally.new r.0 r.1) }
+{
+    let mut left = most;
+    while left > 0 {
+        left -= 1;
+        let (next, stays) = take_unit(tally, source)?;
+        if !stays {
+            return Ok((left, next));
+        }
+    }
+    Ok((left, None))
+}
+
+/// Takes a step, and counts its access. Tells the block that begins behind it, if the machine goes on and one does, and
+/// whether the next unit is of the same block.
+#[inline(always)]
+fn take_unit(tally: &mut Tally, source: &mut Source) -> Result<(Option<u32>, bool), AllocError>
+    requires { HasRoomToAccess tally.old.region (plain_rows tally.old.reads.items) (plain_rows tally.old.writes.items) }
+    ensures { IfOk result (λ r. (p : Program) (starts : List ℕ) → IsProgram p source.old → IsStrictlyIncreasing starts → ((a : ℕ) → p.is_block a ≡ has starts a) → IsTaken starts p source.old source.new r.0 r.1 tally.old tally.new) }
+{
+    let event = source.step()?;
+    // an ended machine told of no access, which is known before that is asked for
+    if !is_going(&event.outcome) {
+        tally.access(event.access);
+        return Ok((None, false));
+    }
+    tally.access(event.access);
+    let next = next_block(source, &event.outcome);
+    Ok((next, next.is_none()))
 }

@@ -28,41 +28,19 @@ pub(crate) struct Tally {
 
 impl Tally {
     ghost use Rattle.std.specs.Prelude.{OnOk};
-    ghost use Rattle.profile_runner.specs.{Tally.{HasRoomToBegin, HasRoomForBlock, HasRoomToAccess, HasRoomToLead, HasRoom, HasBegun, HasAccessed, HasLed, HasCounted}, Tallies.{plain_edges, region_now, block_now}};
+    ghost use Rattle.profile_runner.specs.{Tally.{HasRoomToBegin, HasRoomForBlock, HasRoomToAccess, HasRoomToLead, HasBegun, HasEntered, HasAccessed, HasLed}, Tallies.{plain_edges, region_now, block_now}};
 
     // Counting is inlined in the loop that takes steps.
 
-    /// Counts one step: which block begins with it, if one does, its access, and to which block it leads, if the
-    /// machine goes on to one.
+    /// A block begins with the next unit, or none does.
     #[inline(always)]
-    pub(crate) fn count(
-        &mut self,
-        regions: &RegionTable,
-        coming: Option<u32>,
-        access: Option<Access>,
-        next: Option<u32>,
-    ) -> Result<(), AllocError>
-        requires { HasRoom regions.now.of_block.items coming next self.old }
-        ensures { OnOk result (HasCounted regions.now.of_block.items coming access next self.old self.new) }
-    {
-        self.begin(regions, coming);
-        self.access(access);
-        self.steps += 1;
-        match self.lead(next) {
-            Ok(()) => Ok(()),
-            Err(error) => Err(error),
-        }
-    }
-
-    /// A unit begins, and a block with it or none.
-    #[inline(always)]
-    fn begin(&mut self, regions: &RegionTable, coming: Option<u32>)
+    pub(crate) fn begin(&mut self, regions: &RegionTable, coming: Option<u32>)
         requires { HasRoomToBegin regions.now.of_block.items coming self.old }
-        ensures { HasBegun regions.now.of_block.items coming self.old self.new }
+        ensures { HasEntered regions.now.of_block.items coming self.old self.new }
     {
         match coming {
             Some(block) => self.begin_block(regions, block),
-            None => self.units += 1,
+            None => {}
         }
     }
 
@@ -82,7 +60,7 @@ impl Tally {
 
     /// A load or a store on an object, if there is one.
     #[inline(always)]
-    fn access(&mut self, access: Option<Access>)
+    pub(crate) fn access(&mut self, access: Option<Access>)
         requires { HasRoomToAccess self.old.region (plain_rows self.old.reads.items) (plain_rows self.old.writes.items) }
         ensures { HasAccessed access self.old self.new }
     {
@@ -97,7 +75,7 @@ impl Tally {
 
     /// Control goes to a block, or to none.
     #[inline(always)]
-    fn lead(&mut self, next: Option<u32>) -> Result<(), AllocError>
+    pub(crate) fn lead(&mut self, next: Option<u32>) -> Result<(), AllocError>
         requires { HasRoomToLead next self.old.block (plain_edges self.old.edges.items) }
         ensures { OnOk result (HasLed next self.old self.new) }
     {
