@@ -88,7 +88,7 @@ all_to_end starts regions last size p s i n m t coming far le ended =
 
 -- ---- what is told
 
-pub not_some : (o : Option ProfileFault) → ((f : ProfileFault) → o ≡ Some f → ⊥) → o ≡ None
+pub not_some : {A : Type 0} (o : Option A) → ((f : A) → o ≡ Some f → ⊥) → o ≡ None
 not_some None none = refl
 not_some (Some f) none = absurd (none f refl)
 

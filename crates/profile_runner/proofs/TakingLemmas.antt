@@ -1,23 +1,28 @@
 -- Steps of one block: what the counters will be, and that there is room for it.
 use Rattle.std.proofs.Common.{◌≡◌, ◌∙◌, ℕ, suc, ◌+◌, ◌*◌, ◌<◌, ◌≤◌, Bool, true, false, not, List, length, Option, Some, None, refl, sym, ap, subst, arith}
 use Rattle.std.specs.Option.{is_some}
+use Rattle.code_blocks.specs.Numbers.{starts_of}
+use Rattle.code_blocks.specs.declared.parts.Code.{Code}
+use Rattle.region_former.specs.declared.table.RegionTable.{RegionTable}
 use Rattle.object_machine.specs.declared.events.Access.{Access}
 use Rattle.object_machine.specs.declared.events.Outcome.TheVariants.{GoesOn}
 use Rattle.object_machine.specs.declared.machine.Source.{Source}
 use Rattle.object_machine.specs.Program.{Program}
 use Rattle.object_machine.specs.State.{SourceState}
 use Rattle.object_machine.specs.Machine.{state_of, IsProgram}
-use Rattle.profile_runner.specs.Standing.{region_of, entered}
+use Rattle.profile_runner.specs.Transition.{is_going}
+use Rattle.profile_runner.specs.Standing.{entered}
 use Rattle.profile_runner.specs.Counts.{plain_rows}
-use Rattle.profile_runner.specs.Tallies.{is_coming, block_now, units_now, is_switch, is_leave, is_enter, plain_edges, LedTo}
-use Rattle.profile_runner.specs.Tally.{HasRoomToBegin, HasRoomToAccess, HasRoomToLead, HasRoom, HasBegun, HasEntered, HasAccessed, HasLed, HasCounted, IsNew}
+use Rattle.profile_runner.specs.Tallies.{IsNext, is_coming, block_now, units_now, plain_edges, LedTo}
+use Rattle.profile_runner.specs.Tally.{HasRoomForBlock, HasRoomToAccess, HasRoomToLead, HasRoom, HasBegun, HasEntered, HasAccessed, HasLed, HasCounted, IsNew}
 use Rattle.profile_runner.specs.Running.{IsComing, IsSoFar, IsMachineOf}
-use Rattle.profile_runner.specs.Taking.{Course, IsCourse, timed, units_before, StandsAt, IsTaken, IsBegun, MayTake, MayCount}
+use Rattle.profile_runner.specs.Taking.{Course, IsCourse, timed, StandsAt, IsTaken, IsBegun, MayTake, MayCount}
 use Rattle.profile_runner.specs.declared.tally.Tally.{Tally}
-use Rattle.profile_runner.proofs.CountLemmas.{adds_none, adds_none_in}
-use Rattle.profile_runner.proofs.TestLemmas.{no_switch, no_leave, no_enter}
+use Rattle.profile_runner.proofs.FindLemmas.{starts_count}
+use Rattle.profile_runner.proofs.CountLemmas.{adds_none}
+use Rattle.profile_runner.proofs.TallyLemmas.{no_change}
 use Rattle.profile_runner.proofs.RunLemmas.{performed, same_outcome}
-use Rattle.profile_runner.proofs.StepLemmas.{knows, going_by, going_is, so_far_more}
+use Rattle.profile_runner.proofs.StepLemmas.{knows, fits_at, going_by, going_is, so_far_more}
 use Rattle.profile_runner.proofs.LoopLemmas.{room_now}
 
 -- ---- the course of a run
@@ -26,9 +31,14 @@ abbrev pub course_by : List ℕ → List ℕ → ℕ → ℕ → Program → Sou
 course_by starts regions last size p s =
     record { starts = starts; regions = regions; last = last; size = size; program = p; from = s }
 
-pub course_is : (starts regions : List ℕ) (last size : ℕ) (m : Source) (p : Program) (s : SourceState) → IsMachineOf starts m → IsProgram p m → length regions ≡ length starts → ((k : ℕ) → region_of regions k ≤ last) → IsCourse (course_by starts regions last size p s)
-course_is starts regions last size m p s of is same fit =
-    record { ascending = of.ascending; knows = knows starts m p of is; same = same; fit = fit }
+pub course_is : (c : Code) (r : RegionTable) (size : ℕ) (m : Source) (p : Program) (s : SourceState) → IsMachineOf (starts_of c) m → IsProgram p m → length r.of_block.items ≡ length c.blocks.items → IsCourse (course_by (starts_of c) r.of_block.items r.count size p s)
+course_is c r size m p s of is same =
+    record {
+      ascending = of.ascending;
+      knows = knows (starts_of c) m p of is;
+      same = same ∙ sym (starts_count c);
+      fit = λ k. fits_at r.of_block.items r.count k r.within;
+    }
 
 pub stands_as : (c : Course) (i j u v : ℕ) (m : Source) (t : Tally) (o : Option ℕ) → i ≡ j → u ≡ v → StandsAt c i u m t o → StandsAt c j v m t o
 stands_as c i j u v m t o steps units stands =
@@ -79,17 +89,12 @@ unit_counted c j v m n y x z next stays course begun going taken led =
 
 begun_none : (regions : List ℕ) (j v : ℕ) (t : Tally) → HasBegun regions None (timed j v t) (timed j (suc v) t)
 begun_none regions j v t =
-    let r = t.region in
     record {
       block_is = refl;
       units_are = refl;
       region_is = refl;
       arrivals_add = adds_none t.arrivals.items (is_coming None) (λ k. refl);
-      changes_add = record {
-        switches_add = adds_none_in (plain_rows t.changes.switches.items) (is_switch r r) (λ s k inside. no_switch r s k);
-        leaves_add = adds_none t.changes.leaves.items (is_leave r r) (no_leave r);
-        enters_add = adds_none t.changes.enters.items (is_enter r r) (no_enter r);
-      };
+      changes_add = no_change t.changes t.region;
       rest = refl;
     }
 
@@ -112,33 +117,54 @@ unit_goes c m n y x next stays going taken stay =
     let (read, performs) = performed (state_of c.program m).outcome c.program (state_of c.program m) (state_of c.program n) taken.event going taken.step in
     sym (same_outcome c.program (state_of c.program m) (state_of c.program n) taken.event read performs) ∙ going_by taken.event.outcome (taken.inside stay).1
 
+led_on : (starts : List ℕ) (goes_on : Bool) (a k : ℕ) (next : Option ℕ) → IsNext starts goes_on a next → next ≡ Some k → goes_on ≡ true
+led_on starts true a k next to is = refl
+led_on starts false a k next to is = cc
+
+pub unit_led : (c : Course) (m n : Source) (y x : Tally) (next : Option ℕ) (stays : Bool) (k : ℕ) → (state_of c.program m).outcome ≡ GoesOn → IsTaken c.starts c.program m n next stays y x → next ≡ Some k → (state_of c.program n).outcome ≡ GoesOn
+unit_led c m n y x next stays k going taken is =
+    let (read, performs) = performed (state_of c.program m).outcome c.program (state_of c.program m) (state_of c.program n) taken.event going taken.step in
+    sym (same_outcome c.program (state_of c.program m) (state_of c.program n) taken.event read performs)
+    ∙ going_by taken.event.outcome (led_on c.starts (is_going taken.event.outcome) (state_of c.program n).pc k next taken.next_is is)
+
+pub unit_ended : (c : Course) (m n : Source) (y x : Tally) (next : Option ℕ) (stays : Bool) → (state_of c.program m).outcome ≡ GoesOn → IsTaken c.starts c.program m n next stays y x → stays ≡ false → next ≡ None → is_going (state_of c.program n).outcome ≡ false
+unit_ended c m n y x next stays going taken off none =
+    let (read, performs) = performed (state_of c.program m).outcome c.program (state_of c.program m) (state_of c.program n) taken.event going taken.step in
+    ap is_going (sym (same_outcome c.program (state_of c.program m) (state_of c.program n) taken.event read performs)) ∙ taken.ended off none
+
 -- ---- a block begins
 
-begun_more : (regions : List ℕ) (coming : Option ℕ) (j u : ℕ) (t y : Tally) → HasEntered regions coming t y → HasBegun regions coming (timed j u t) (timed j (suc (units_before coming u)) y)
-begun_more regions None j u t y same = rw same (begun_none regions j u t)
-begun_more regions (Some k) j u t y begun =
+begun_more : (regions : List ℕ) (k j u : ℕ) (t y : Tally) → HasEntered regions k t y → HasBegun regions (Some k) (timed j u t) (timed j 1 y)
+begun_more regions k j u t y entered =
     record {
-      block_is = begun.block_is;
+      block_is = entered.block_is;
       units_are = refl;
-      region_is = begun.region_is;
-      arrivals_add = begun.arrivals_add;
-      changes_add = begun.changes_add;
-      rest = ap (timed j 1) begun.rest;
+      region_is = entered.region_is;
+      arrivals_add = entered.arrivals_add;
+      changes_add = entered.changes_add;
+      rest = ap (timed j 1) entered.rest;
     }
 
-block_begun : (c : Course) (j u : ℕ) (m : Source) (t y : Tally) (coming : Option ℕ) → StandsAt c j u m t coming → HasEntered c.regions coming t y → IsBegun c j (suc (units_before coming u)) m y
-block_begun c j u m t y coming stands entered =
-    record { before = timed j u t; coming = coming; far = stands; begun = begun_more c.regions coming j u t y entered }
+block_begun : (c : Course) (j u : ℕ) (m : Source) (t y : Tally) (k : ℕ) → StandsAt c j u m t (Some k) → HasEntered c.regions k t y → IsBegun c j 1 m y
+block_begun c j u m t y k stands entered =
+    record { before = timed j u t; coming = Some k; far = stands; begun = begun_more c.regions k j u t y entered }
 
-pub may_count : (starts regions : List ℕ) (last size i u most : ℕ) (p : Program) (s : SourceState) (m : Source) (t : Tally) (coming : Option ℕ) → IsCourse (course_by starts regions last size p s) → IsSoFar starts regions last size p s i m (timed i u t) coming → (state_of p m).outcome ≡ GoesOn → 0 < most → i + most < 18446744073709551616 → MayCount (course_by starts regions last size p s) regions i u most m t coming
-may_count starts regions last size i u most p s m t coming course far going some few =
-    record { course = course; regions_are = refl; far = far; going = going; some = some; few = few }
+pub may_count : (starts regions : List ℕ) (last size i u most : ℕ) (p : Program) (s : SourceState) (m : Source) (t : Tally) (k : ℕ) (coming : Option ℕ) → coming ≡ Some k → IsCourse (course_by starts regions last size p s) → IsSoFar starts regions last size p s i m (timed i u t) coming → (state_of p m).outcome ≡ GoesOn → 0 < most → i + most < 18446744073709551616 → MayCount (course_by starts regions last size p s) regions i u most m t k
+may_count starts regions last size i u most p s m t k coming at course far going some few =
+    record {
+      course = course;
+      regions_are = refl;
+      far = subst (λ (o : Option ℕ). IsSoFar starts regions last size p s i m (timed i u t) o) at far;
+      going = going;
+      some = some;
+      few = few;
+    }
 
-pub may_take : (c : Course) (regions : List ℕ) (i u most : ℕ) (m : Source) (t y : Tally) (coming : Option ℕ) → MayCount c regions i u most m t coming → HasEntered regions coming t y → MayTake c i (units_before coming u) most m y
-may_take c regions i u most m t y coming may entered =
+pub may_take : (c : Course) (regions : List ℕ) (i u most : ℕ) (m : Source) (t y : Tally) (k : ℕ) → MayCount c regions i u most m t k → HasEntered regions k t y → MayTake c i most m y
+may_take c regions i u most m t y k may entered =
     record {
       course = may.course;
-      begun = block_begun c i u m t y coming may.far (subst (λ (rs : List ℕ). HasEntered rs coming t y) (sym may.regions_are) entered);
+      begun = block_begun c i u m t y k may.far (subst (λ (rs : List ℕ). HasEntered rs k t y) (sym may.regions_are) entered);
       going = may.going;
       some = may.some;
       few = may.few;
@@ -148,20 +174,23 @@ pub none_of : (o : Option ℕ) (none : Bool) → is_some o ≡ not none → none
 none_of None none is told = refl
 none_of (Some k) none is told = let differs : true ≡ false = is ∙ ap not told in cc
 
+pub some_of : (o : Option ℕ) (none : Bool) → is_some o ≡ not none → none ≡ false → o ≡ None → ⊥
+some_of None none is told same = let differs : false ≡ true = is ∙ ap not told in cc
+some_of (Some k) none is told same = cc
+
 -- ---- room
 
 room_at : (c : Course) (j : ℕ) (m : Source) (t : Tally) (coming next : Option ℕ) → IsCourse c → (state_of c.program m).outcome ≡ GoesOn → j < 18446744073709551615 → IsSoFar c.starts c.regions c.last c.size c.program c.from j m t coming → HasRoom c.regions coming next t
 room_at c j m t coming next course going few far =
     room_now c.starts c.regions c.last c.size c.program c.from j m t coming next far going few course.same course.fit
 
-begin_as : (regions : List ℕ) (coming : Option ℕ) (j u : ℕ) (t : Tally) → HasRoomToBegin regions coming (timed j u t) → HasRoomToBegin regions coming t
-begin_as regions None j u t room = tt
-begin_as regions (Some k) j u t room =
+begin_as : (regions : List ℕ) (k j u : ℕ) (t : Tally) → HasRoomForBlock regions k (timed j u t) → HasRoomForBlock regions k t
+begin_as regions k j u t room =
     record { number = room.number; row = room.row; arrival = room.arrival; change = room.change }
 
-pub room_to_begin : (c : Course) (j u : ℕ) (m : Source) (t : Tally) (coming : Option ℕ) → IsCourse c → (state_of c.program m).outcome ≡ GoesOn → j < 18446744073709551615 → StandsAt c j u m t coming → HasRoomToBegin c.regions coming t
-room_to_begin c j u m t coming course going few stands =
-    begin_as c.regions coming j u t (room_at c j m (timed j u t) coming None course going few stands).begin
+pub room_to_begin : (c : Course) (j u : ℕ) (m : Source) (t : Tally) (k : ℕ) → IsCourse c → (state_of c.program m).outcome ≡ GoesOn → j < 18446744073709551615 → StandsAt c j u m t (Some k) → HasRoomForBlock c.regions k t
+room_to_begin c j u m t k course going few stands =
+    begin_as c.regions k j u t (room_at c j m (timed j u t) (Some k) None course going few stands).begin
 
 pub room_to_access : (c : Course) (j v : ℕ) (m : Source) (y : Tally) → IsCourse c → (state_of c.program m).outcome ≡ GoesOn → j < 18446744073709551615 → IsBegun c j v m y → HasRoomToAccess y.region (plain_rows y.reads.items) (plain_rows y.writes.items)
 room_to_access c j v m y course going few begun =

@@ -7,12 +7,13 @@ use Rattle.profile_runner.specs.Transition.{Transition}
 use Rattle.profile_runner.specs.Standing.{number_of, region_of, entered, block_of, units_run, current}
 use Rattle.profile_runner.specs.Counts.{plain_rows, count_in, arrivals_of, edges_of, accesses_of, switches_of}
 use Rattle.profile_runner.specs.Tallies.{IsBlockAt, IsNext, is_coming, is_led, block_now, region_now, is_switch, is_leave, is_enter, is_access_in, plain_edges, edge_row, with_edge, AreFrom, AreRows, LedTo}
-use Rattle.profile_runner.specs.Tally.{IsTally, HasCounted, leaves_of, enters_of}
+use Rattle.profile_runner.specs.Tally.{IsTally, HasChanged, HasCounted, leaves_of, enters_of}
 use Rattle.profile_runner.specs.declared.counts.Edge.{Edge}
+use Rattle.profile_runner.specs.declared.changes.Changes.{Changes}
 use Rattle.profile_runner.specs.declared.tally.Tally.{Tally}
-use Rattle.profile_runner.proofs.CountLemmas.{list_more, table_more, sum_more}
+use Rattle.profile_runner.proofs.CountLemmas.{adds_none, adds_none_in, list_more, table_more, sum_more}
 use Rattle.profile_runner.proofs.EdgeLemmas.{are_still, are_more, counts_more}
-use Rattle.profile_runner.proofs.TestLemmas.{block_choice, units_choice, region_choice, coming_test, led_test, switch_leave, switch_enter, eq_refl, eq_not}
+use Rattle.profile_runner.proofs.TestLemmas.{block_choice, units_choice, region_choice, coming_test, led_test, no_switch, no_leave, no_enter, switch_leave, switch_enter, eq_refl, eq_not}
 use Rattle.profile_runner.proofs.TransitionLemmas.{one_longer, block_here, units_here, current_here, arrivals_more, edges_more, accesses_more, switches_more}
 
 -- ---- edges
@@ -79,6 +80,16 @@ next_fits : (starts : List ℕ) (goes_on : Bool) (x k : ℕ) (next : Option ℕ)
 next_fits starts true x k None to is = cc
 next_fits starts true x k (Some j) to is = let within = to.2 in let same : j ≡ k = cc in omega (arith, within, same)
 next_fits starts false x k next to is = cc
+
+-- ---- the region stays
+
+pub no_change : (c : Changes) (r : ℕ) → HasChanged c c r r
+no_change c r =
+    record {
+      switches_add = adds_none_in (plain_rows c.switches.items) (is_switch r r) (λ s k inside. no_switch r s k);
+      leaves_add = adds_none c.leaves.items (is_leave r r) (no_leave r);
+      enters_add = adds_none c.enters.items (is_enter r r) (no_enter r);
+    }
 
 -- ---- all of it
 

@@ -1,5 +1,5 @@
 -- What is known while the steps of one block are taken: the counters are changed where it begins and behind its last unit.
-use Rattle.std.specs.Prelude.{◌≡◌, ℕ, suc, ◌+◌, ◌-◌, ◌<◌, ◌≤◌, Bool, true, List, length, Option, Some, None}
+use Rattle.std.specs.Prelude.{◌≡◌, ℕ, ◌+◌, ◌-◌, ◌<◌, ◌≤◌, Bool, true, false, List, length, Option, Some, None}
 use Rattle.std.specs.List.Sorted.{IsStrictlyIncreasing}
 use Rattle.code_blocks.specs.Early.{has}
 use Rattle.object_machine.specs.declared.machine.Source.{Source}
@@ -45,11 +45,6 @@ timed steps units t = record t { steps = steps; units = units }
 abbrev pub StandsAt : Course → ℕ → ℕ → Source → Tally → Option ℕ → Type 0
 StandsAt c i u m t coming = IsSoFar c.starts c.regions c.last c.size c.program c.from i m (timed i u t) coming
 
--- how many ran of the block of the next unit, where `u` ran of the one before that
-abbrev pub units_before : Option ℕ → ℕ → ℕ
-units_before None u = u
-units_before (Some k) u = 0
-
 -- ---- one step
 
 -- a step was taken and its access counted; `stays` tells that the next unit is of the same block
@@ -60,6 +55,7 @@ pub record IsTaken (starts : List ℕ) (p : Program) (old new : Source) (next : 
   pub accessed : HasAccessed event.access t y
   pub next_is : IsNext starts (is_going event.outcome) (state_of p new).pc next
   pub inside : stays ≡ true → (next ≡ None) × (is_going event.outcome ≡ true)
+  pub ended : stays ≡ false → next ≡ None → is_going event.outcome ≡ false
 
 -- ---- steps of one block
 
@@ -70,31 +66,36 @@ pub record IsBegun (c : Course) (i v : ℕ) (m : Source) (y : Tally) : Type 0 wh
   pub far : IsSoFar c.starts c.regions c.last c.size c.program c.from i m before coming
   pub begun : HasBegun c.regions coming before (timed i v y)
 
-pub record MayTake (c : Course) (i u most : ℕ) (m : Source) (y : Tally) : Type 0 where
+pub record MayTake (c : Course) (i most : ℕ) (m : Source) (y : Tally) : Type 0 where
   pub course : IsCourse c
-  pub begun : IsBegun c i (suc u) m y
+  pub begun : IsBegun c i 1 m y
   pub going : (state_of c.program m).outcome ≡ GoesOn
   pub some : 0 < most
   pub few : i + most < 18446744073709551616
 
--- all but `left` were taken, and the last led to block `next` or to none
-pub record AreTaken (c : Course) (i u most : ℕ) (m : Source) (y : Tally) (left : ℕ) (next : Option ℕ) : Type 0 where
+-- all but `left` were taken, and the last led to block `next` or to none: the machine goes on where it did to one, and has
+-- ended where some are left and it did not
+pub record AreTaken (c : Course) (i most : ℕ) (m : Source) (y : Tally) (left : ℕ) (next : Option ℕ) : Type 0 where
   pub some : left < most
-  pub short : u + (most - left) ≤ 1073741824
+  pub short : most - left ≤ 1073741824
+  pub led : (k : ℕ) → next ≡ Some k → (state_of c.program m).outcome ≡ GoesOn
+  pub ended : next ≡ None → 0 < left → is_going (state_of c.program m).outcome ≡ false
   pub room : HasRoomToLead next y.block (plain_edges y.edges.items)
-  pub closed : (z : Tally) → HasLed next y z → StandsAt c (i + (most - left)) (u + (most - left)) m z next
+  pub closed : (z : Tally) → HasLed next y z → StandsAt c (i + (most - left)) (most - left) m z next
 
 -- ---- the same with the block that begins with the first of them
 
-pub record MayCount (c : Course) (regions : List ℕ) (i u most : ℕ) (m : Source) (t : Tally) (coming : Option ℕ) : Type 0 where
+pub record MayCount (c : Course) (regions : List ℕ) (i u most : ℕ) (m : Source) (t : Tally) (block : ℕ) : Type 0 where
   pub course : IsCourse c
   pub regions_are : c.regions ≡ regions
-  pub far : StandsAt c i u m t coming
+  pub far : StandsAt c i u m t (Some block)
   pub going : (state_of c.program m).outcome ≡ GoesOn
   pub some : 0 < most
   pub few : i + most < 18446744073709551616
 
-pub record AreCounted (c : Course) (i u most : ℕ) (m : Source) (t : Tally) (left : ℕ) (next : Option ℕ) : Type 0 where
+pub record AreCounted (c : Course) (i most : ℕ) (m : Source) (t : Tally) (left : ℕ) (next : Option ℕ) : Type 0 where
   pub some : left < most
-  pub short : u + (most - left) ≤ 1073741824
-  pub far : StandsAt c (i + (most - left)) (u + (most - left)) m t next
+  pub short : most - left ≤ 1073741824
+  pub led : (k : ℕ) → next ≡ Some k → (state_of c.program m).outcome ≡ GoesOn
+  pub ended : next ≡ None → 0 < left → is_going (state_of c.program m).outcome ≡ false
+  pub far : StandsAt c (i + (most - left)) (most - left) m t next

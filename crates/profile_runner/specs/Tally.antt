@@ -68,10 +68,19 @@ pub record HasBegun (regions : List ℕ) (coming : Option ℕ) (old new : Tally)
   pub changes_add : HasChanged old.changes new.changes old.region new.region
   pub rest : new ≡ record old { arrivals = new.arrivals; changes = new.changes; block = new.block; units = new.units; region = new.region }
 
--- the same of all but the units, where a block begins
-abbrev pub HasEntered : List ℕ → Option ℕ → Tally → Tally → Type 0
-HasEntered regions None old new = new ≡ old
-HasEntered regions (Some k) old new = HasBegun regions (Some k) old new
+-- a region becomes current, if it isn't
+pub record HasMoved (region : ℕ) (old new : Tally) : Type 0 where
+  pub region_is : new.region ≡ region
+  pub changes_add : HasChanged old.changes new.changes old.region region
+  pub rest : new ≡ record old { changes = new.changes; region = new.region }
+
+-- a block begins, of which no unit ran
+pub record HasEntered (regions : List ℕ) (k : ℕ) (old new : Tally) : Type 0 where
+  pub block_is : new.block ≡ k
+  pub region_is : new.region ≡ entered old.region (region_of regions k)
+  pub arrivals_add : Adds old.arrivals.items new.arrivals.items (is_coming (Some k))
+  pub changes_add : HasChanged old.changes new.changes old.region new.region
+  pub rest : new ≡ record old { arrivals = new.arrivals; changes = new.changes; block = new.block; region = new.region }
 
 pub record HasAccessed (access : Option Access) (old new : Tally) : Type 0 where
   pub reads_add : AddsIn (plain_rows old.reads.items) (plain_rows new.reads.items) (is_access_in false access old.region)

@@ -14,7 +14,6 @@ impl Changes {
     ghost use Rattle.profile_runner.specs.Tally.{HasRoomToChange, HasChanged};
 
     /// Counts that one region gives way to another, or to itself, which is no change.
-    #[inline(always)]
     pub(crate) fn count(&mut self, before: u32, after: u32)
         requires { HasRoomToChange self.old before after }
         ensures { HasChanged self.old self.new before after }

@@ -2,7 +2,7 @@ ghost use Rattle.std.specs.Prelude.{◌≡◌, ◌+◌, ◌-◌, ◌<◌, ◌≤
 ghost use Rattle.std.specs.List.Sorted.{IsStrictlyIncreasing};
 ghost use Rattle.code_blocks.specs.{Early.{has}, Numbers.{starts_of}};
 ghost use Rattle.object_machine.specs.{Program.{Program}, Machine.{state_of, IsProgram}};
-ghost use Rattle.profile_runner.specs.{Counts.{plain_rows}, Tallies.{IsBlockAt}, Tally.{HasRoomToAccess, IsNew}, Running.{HasStarted, fault_of, IsMachineOf, IsAll, ReportsOfRun}, Taking.{Course, timed, units_before, IsTaken, MayTake, AreTaken, MayCount, AreCounted}};
+ghost use Rattle.profile_runner.specs.{Counts.{plain_rows}, Tallies.{IsBlockAt}, Tally.{HasRoomToAccess, IsNew}, Running.{HasStarted, fault_of, IsMachineOf, IsAll, ReportsOfRun}, Taking.{Course, timed, IsTaken, MayTake, AreTaken, MayCount, AreCounted}};
 
 use crate::counts::Profile;
 use crate::fault::ProfileFault;
@@ -93,6 +93,7 @@ fn take_steps(
     requires machine { IsMachineOf (starts_of parts.now.code.now) source.old }
     requires regions { length parts.now.regions.now.of_block.items ≡ length parts.now.code.now.blocks.items }
     requires begins { (p : Program) → IsProgram p source.old → IsBlockAt (starts_of parts.now.code.now) (state_of p source.old).pc (Some first) }
+    requires going { (p : Program) → (state_of p source.old).outcome ≡ Outcome.GoesOn }
     requires nothing { (size : ℕ) × IsNew (length parts.now.code.now.blocks.items) size parts.now.regions.now.count first tally.old }
     ensures program { OnOk result ((p : Program) → IsProgram p source.old → IsProgram p source.new) }
     ensures run { OnOk result ((p : Program) (size : ℕ) → IsProgram p source.old → IsNew (length parts.now.code.now.blocks.items) size parts.now.regions.now.count first tally.old → IsAll (starts_of parts.now.code.now) parts.now.regions.now.of_block.items parts.now.regions.now.count size p (state_of p source.old) (state_of p source.new) n tally.new) }
@@ -116,6 +117,7 @@ fn take_blocks(
     requires machine { IsMachineOf (starts_of parts.now.code.now) source.old }
     requires regions { length parts.now.regions.now.of_block.items ≡ length parts.now.code.now.blocks.items }
     requires begins { (p : Program) → IsProgram p source.old → IsBlockAt (starts_of parts.now.code.now) (state_of p source.old).pc (Some first) }
+    requires going { (p : Program) → (state_of p source.old).outcome ≡ Outcome.GoesOn }
     requires nothing { (size : ℕ) × IsNew (length parts.now.code.now.blocks.items) size parts.now.regions.now.count first tally.old }
     ensures short { IfOk result (λ r. r.1 ≤ 1073741824) }
     ensures program { OnOk result ((p : Program) → IsProgram p source.old → IsProgram p source.new) }
@@ -126,12 +128,12 @@ fn take_blocks(
     let mut since = n;
     let mut due = n;
     while left > 0 {
-        if !is_going(&source.outcome()) {
+        let Some(block) = coming else {
             break;
-        }
+        };
         due = tell_steps(progress, due, left, n);
-        since = begun_since(coming, left, since);
-        let (rest, next) = count_units(tally, source, parts.regions, coming, left)?;
+        since = left;
+        let (rest, next) = count_units(tally, source, parts.regions, block, left)?;
         left = rest;
         coming = next;
     }
@@ -150,33 +152,20 @@ fn tell_steps(progress: &dyn Progress, due: u64, left: u64, most: u64) -> u64
     left.saturating_sub(TOLD_STEPS)
 }
 
-/// How many steps were left when the block of the next unit began: these, if it begins now.
-#[inline(always)]
-fn begun_since(coming: Option<u32>, left: u64, since: u64) -> u64
-    requires { left ≤ since }
-    ensures { result ≡ left + units_before coming (since - left) }
-{
-    match coming {
-        Some(_) => left,
-        None => since,
-    }
-}
-
-/// Takes steps until one leads to a block, ends the machine, or is the last of `most`, and counts what they do. Tells how
-/// many are left, and the block that begins behind them, if the machine goes on and one does; `coming` is the one that
-/// begins with the first.
+/// Takes the steps of a block that begins, until one leads to a block, ends the machine, or is the last of `most`, and counts
+/// what they do. Tells how many are left, and the block that begins behind them, if the machine goes on and one does.
 #[inline(always)]
 fn count_units(
     tally: &mut Tally,
     source: &mut Source,
     regions: &RegionTable,
-    coming: Option<u32>,
+    block: u32,
     most: u64,
 ) -> Result<(u64, Option<u32>), AllocError>
-    requires { (c : Course) × ((i : ℕ) × ((u : ℕ) × MayCount c regions.now.of_block.items i u most source.old tally.old coming)) }
-    ensures { IfOk result (λ r. (c : Course) (i u : ℕ) → MayCount c regions.now.of_block.items i u most source.old tally.old coming → AreCounted c i (units_before coming u) most source.new tally.new r.0 r.1) }
+    requires { (c : Course) × ((i : ℕ) × ((u : ℕ) × MayCount c regions.now.of_block.items i u most source.old tally.old block)) }
+    ensures { IfOk result (λ r. (c : Course) (i u : ℕ) → MayCount c regions.now.of_block.items i u most source.old tally.old block → AreCounted c i most source.new tally.new r.0 r.1) }
 {
-    tally.begin(regions, coming);
+    tally.begin(regions, block);
     let (left, next) = take_units(tally, source, most)?;
     match tally.lead(next) {
         Ok(()) => Ok((left, next)),
@@ -191,8 +180,8 @@ fn take_units(
     source: &mut Source,
     most: u64,
 ) -> Result<(u64, Option<u32>), AllocError>
-    requires { (c : Course) × ((i : ℕ) × ((u : ℕ) × MayTake c i u most source.old tally.old)) }
-    ensures { IfOk result (λ r. (c : Course) (i u : ℕ) → MayTake c i u most source.old tally.old → AreTaken c i u most source.new tally.new r.0 r.1) }
+    requires { (c : Course) × ((i : ℕ) × MayTake c i most source.old tally.old) }
+    ensures { IfOk result (λ r. (c : Course) (i : ℕ) → MayTake c i most source.old tally.old → AreTaken c i most source.new tally.new r.0 r.1) }
 {
     let mut left = most;
     while left > 0 {

@@ -28,34 +28,42 @@ pub(crate) struct Tally {
 
 impl Tally {
     ghost use Rattle.std.specs.Prelude.{OnOk};
-    ghost use Rattle.profile_runner.specs.{Tally.{HasRoomToBegin, HasRoomForBlock, HasRoomToAccess, HasRoomToLead, HasBegun, HasEntered, HasAccessed, HasLed}, Tallies.{plain_edges, region_now, block_now}};
+    ghost use Rattle.profile_runner.specs.{Tally.{HasRoomToChange, HasRoomForBlock, HasRoomToAccess, HasRoomToLead, HasEntered, HasMoved, HasAccessed, HasLed}, Tallies.{plain_edges}};
 
     // Counting is inlined in the loop that takes steps.
 
-    /// A block begins with the next unit, or none does.
+    /// A block begins.
     #[inline(always)]
-    pub(crate) fn begin(&mut self, regions: &RegionTable, coming: Option<u32>)
-        requires { HasRoomToBegin regions.now.of_block.items coming self.old }
-        ensures { HasEntered regions.now.of_block.items coming self.old self.new }
+    pub(crate) fn begin(&mut self, regions: &RegionTable, block: u32)
+        requires { HasRoomForBlock regions.now.of_block.items block self.old }
+        ensures { HasEntered regions.now.of_block.items block self.old self.new }
     {
-        match coming {
-            Some(block) => self.begin_block(regions, block),
-            None => {}
+        bump(&mut self.arrivals, block as usize);
+        self.block = block;
+        self.enter(regions.of_block[block as usize]);
+    }
+
+    /// A block of this region begins.
+    #[inline(always)]
+    fn enter(&mut self, region: u32)
+        requires { HasRoomToChange self.old.changes self.old.region (entered self.old.region region) }
+        ensures { HasMoved (entered self.old.region region) self.old self.new }
+    {
+        let after = entered(self.region, region);
+        if after != self.region {
+            self.change(after);
         }
     }
 
-    /// A block begins.
-    #[inline(always)]
-    fn begin_block(&mut self, regions: &RegionTable, block: u32)
-        requires { HasRoomForBlock regions.now.of_block.items block self.old }
-        ensures { HasBegun regions.now.of_block.items (Some block) self.old self.new }
+    /// Another region becomes current.
+    #[cold]
+    #[inline(never)]
+    fn change(&mut self, region: u32)
+        requires { HasRoomToChange self.old.changes self.old.region region }
+        ensures { HasMoved region self.old self.new }
     {
-        let after = entered(self.region, regions.of_block[block as usize]);
-        bump(&mut self.arrivals, block as usize);
-        self.changes.count(self.region, after);
-        self.block = block;
-        self.units = 1;
-        self.region = after;
+        self.changes.count(self.region, region);
+        self.region = region;
     }
 
     /// A load or a store on an object, if there is one.

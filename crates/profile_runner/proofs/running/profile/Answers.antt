@@ -17,6 +17,10 @@ pub take_steps-requires-clause-begins : goal.take_steps-requires-clause-begins
 take_steps-requires-clause-begins g c p is =
     subst (λ (a : ℕ). IsBlockAt (starts_of c.args.parts.now.code.now) a (Some c.first_block-first.result)) (c.at.ensures p) c.first_block-first.ensures
 
+pub take_steps-requires-clause-going : goal.take_steps-requires-clause-going
+take_steps-requires-clause-going g c p =
+    goes_at_first c.args.parts.now.graph.now c.args.parts.now.code.now c.args.source.now p c.requires.started
+
 pub returns-in-Some-clause-run : goal.returns-in-Some-clause-run
 returns-in-Some-clause-run g c p is =
     let code = c.args.parts.now.code.now in

@@ -1,16 +1,14 @@
-use Rattle.std.proofs.Common.{◌≡◌, ◌∙◌, ◌+◌, ◌-◌, ℕ, true, false, Some, length, sym, ap, subst, arith}
+use Rattle.std.proofs.Common.{◌≡◌, ◌+◌, ◌-◌, ℕ, Some, length, refl, sym, subst, arith}
 use Rattle.code_blocks.specs.Numbers.{starts_of}
 use Rattle.object_machine.specs.Program.{Program}
 use Rattle.object_machine.specs.Machine.{state_of, IsProgram}
-use Rattle.profile_runner.specs.Transition.{is_going}
 use Rattle.profile_runner.specs.Tally.{IsNew}
 use Rattle.profile_runner.specs.Running.{IsSoFar}
-use Rattle.profile_runner.specs.Taking.{timed, units_before}
+use Rattle.profile_runner.specs.Taking.{timed}
 use Rattle.profile_runner.proofs.FindLemmas.{starts_count}
-use Rattle.profile_runner.proofs.StepLemmas.{fits_at, going_by}
-use Rattle.profile_runner.proofs.LoopLemmas.{so_far_first, all_taken, all_to_end}
+use Rattle.profile_runner.proofs.LoopLemmas.{so_far_first, all_taken, all_to_end, not_some}
 use Rattle.profile_runner.proofs.TakingLemmas.{course_by, course_is, stands_as, timed_new, may_count}
-use Rattle.profile_runner.proofs.running.take_blocks.Goals.{else-loop-left-test, then-loop-left-test+then-not-is_going}
+use Rattle.profile_runner.proofs.running.take_blocks.Goals.{else-loop-left-test, then-loop-left-test+in_default}
 use Rattle.profile_runner.proofs.running.take_blocks.Goals as goal
 
 pub loop-left-init : goal.loop-left-init
@@ -19,6 +17,8 @@ loop-left-init g c =
       few = omega arith;
       before = omega arith;
       short = omega arith;
+      led = λ p k is at. c.requires.going p;
+      ended = λ p is none some. cc;
       far = λ p size is new.
           let starts = starts_of c.args.parts.now.code.now in
           let regions = c.args.parts.now.regions.now in
@@ -36,19 +36,18 @@ count_units-requires g c =
     let starts = starts_of c.args.parts.now.code.now in
     let regions = c.args.parts.now.regions.now in
     let l = c.loop-left in
+    let few = l.invariant.few in
     let p = c.requires.machine.some in
     let size = c.requires.nothing.0 in
     let s = state_of p c.args.source.now in
-    let course = course_is starts regions.of_block.items regions.count size c.args.source.now p s c.requires.machine c.requires.machine.is (c.requires.regions ∙ sym (starts_count c.args.parts.now.code.now)) (λ k. fits_at regions.of_block.items regions.count k regions.within) in
-    let far = l.invariant.far p size c.requires.machine.is c.requires.nothing.1 in
-    let on : is_going (state_of p l.source).outcome ≡ true = ap is_going (sym (c.outcome.ensures p)) ∙ (sym c.is_going.ensures ∙ c.if-not-is_going.false) in
-    let few = l.invariant.few in (
+    let course = course_is c.args.parts.now.code.now regions size c.args.source.now p s c.requires.machine c.requires.machine.is c.requires.regions in
+    let far = l.invariant.far p size c.requires.machine.is c.requires.nothing.1 in (
       course_by starts regions.of_block.items regions.count size p s,
       (
         c.args.n - l.left,
         (
           l.since - l.left,
-          may_count starts regions.of_block.items regions.count size (c.args.n - l.left) (l.since - l.left) l.left p s l.source l.tally l.coming course far (going_by _ on) (omega arith) (omega arith),
+          may_count starts regions.of_block.items regions.count size (c.args.n - l.left) (l.since - l.left) l.left p s l.source l.tally c.in-Some.block l.coming c.in-Some.is course far (l.invariant.led p c.in-Some.block c.requires.machine.is c.in-Some.is) (omega arith) (omega arith),
         ),
       ),
     )
@@ -58,15 +57,14 @@ loop-left-smaller g c =
     let starts = starts_of c.args.parts.now.code.now in
     let regions = c.args.parts.now.regions.now in
     let l = c.loop-left in
+    let few = l.invariant.few in
     let p = c.requires.machine.some in
     let size = c.requires.nothing.0 in
     let s = state_of p c.args.source.now in
-    let course = course_is starts regions.of_block.items regions.count size c.args.source.now p s c.requires.machine c.requires.machine.is (c.requires.regions ∙ sym (starts_count c.args.parts.now.code.now)) (λ k. fits_at regions.of_block.items regions.count k regions.within) in
+    let course = course_is c.args.parts.now.code.now regions size c.args.source.now p s c.requires.machine c.requires.machine.is c.requires.regions in
     let far = l.invariant.far p size c.requires.machine.is c.requires.nothing.1 in
-    let on : is_going (state_of p l.source).outcome ≡ true = ap is_going (sym (c.outcome.ensures p)) ∙ (sym c.is_going.ensures ∙ c.if-not-is_going.false) in
-    let few = l.invariant.few in
-    let may = may_count starts regions.of_block.items regions.count size (c.args.n - l.left) (l.since - l.left) l.left p s l.source l.tally l.coming course far (going_by _ on) (omega arith) (omega arith) in
-    (c.in_ok-rest.ensures (course_by starts regions.of_block.items regions.count size p s) (c.args.n - l.left) (l.since - l.left) may).some
+    (c.in_ok-rest.ensures (course_by starts regions.of_block.items regions.count size p s) (c.args.n - l.left) (l.since - l.left)
+    (may_count starts regions.of_block.items regions.count size (c.args.n - l.left) (l.since - l.left) l.left p s l.source l.tally c.in-Some.block l.coming c.in-Some.is course far (l.invariant.led p c.in-Some.block c.requires.machine.is c.in-Some.is) (omega arith) (omega arith))).some
 
 pub loop-left-preserved : goal.loop-left-preserved
 loop-left-preserved g c =
@@ -74,29 +72,26 @@ loop-left-preserved g c =
     let regions = c.args.parts.now.regions.now in
     let l = c.loop-left in
     let few = l.invariant.few in
-    let same = c.requires.regions ∙ sym (starts_count c.args.parts.now.code.now) in
-    let since = c.begun_since-since.ensures in
-    let some = c.requires.machine.some in
-    let size = c.requires.nothing.0 in
+    let rest = c.in_ok-rest.rest in
     let counted = λ (p : Program) (size : ℕ) (is : IsProgram p c.args.source.now) (new : IsNew (length c.args.parts.now.code.now.blocks.items) size regions.count c.args.first c.args.tally.now).
     let s = state_of p c.args.source.now in
-    let course = course_is starts regions.of_block.items regions.count size c.args.source.now p s c.requires.machine is same (λ k. fits_at regions.of_block.items regions.count k regions.within) in
-    let far = l.invariant.far p size is new in
-    let on : is_going (state_of p l.source).outcome ≡ true = ap is_going (sym (c.outcome.ensures p)) ∙ (sym c.is_going.ensures ∙ c.if-not-is_going.false) in
+    let course = course_is c.args.parts.now.code.now regions size c.args.source.now p s c.requires.machine is c.requires.regions in
     c.in_ok-rest.ensures (course_by starts regions.of_block.items regions.count size p s) (c.args.n - l.left) (l.since - l.left)
-    (may_count starts regions.of_block.items regions.count size (c.args.n - l.left) (l.since - l.left) l.left p s l.source l.tally l.coming course far (going_by _ on) (omega arith) (omega arith)) in
-    let one = counted some size c.requires.machine.is c.requires.nothing.1 in
+    (may_count starts regions.of_block.items regions.count size (c.args.n - l.left) (l.since - l.left) l.left p s l.source l.tally c.in-Some.block l.coming c.in-Some.is course (l.invariant.far p size is new) (l.invariant.led p c.in-Some.block is c.in-Some.is) (omega arith) (omega arith)) in
+    let size = c.requires.nothing.0 in
+    let new = c.requires.nothing.1 in
+    let one = counted c.requires.machine.some size c.requires.machine.is new in
     let less = one.some in
-    let short = one.short in
-    let units = units_before l.coming (l.since - l.left) in
     record {
       few = omega (arith, few, less);
-      before = omega (arith, since, less);
-      short = omega (arith, since, less, short);
+      before = omega (arith, less);
+      short = one.short;
+      led = λ p k is at. (counted p size is new).led k at;
+      ended = λ p is none some. (counted p size is new).ended none some;
       far = λ p size is new.
           let s = state_of p c.args.source.now in
-          stands_as (course_by starts regions.of_block.items regions.count size p s) ((c.args.n - l.left) + (l.left - c.in_ok-rest.rest)) (c.args.n - c.in_ok-rest.rest) (units + (l.left - c.in_ok-rest.rest)) (c.begun_since-since.result - c.in_ok-rest.rest) c.count_units.new.source c.count_units.new.tally c.in_ok-rest.next
-          (omega (arith, few, less)) (omega (arith, since, less))
+          stands_as (course_by starts regions.of_block.items regions.count size p s) ((c.args.n - l.left) + (l.left - rest)) (c.args.n - rest) (l.left - rest) (l.left - rest) c.count_units.new.source c.count_units.new.tally c.in_ok-rest.next
+          (omega (arith, few, less)) refl
           (counted p size is new).far;
     }
 
@@ -117,7 +112,8 @@ returns-clause-run g c p size is new =
       | else-loop-left-test w ↦
           let none = w.loop-left-test in
           all_taken starts regions.of_block.items regions.count size p s taken c.args.n l.source t l.coming far (omega arith)
-      | then-loop-left-test+then-not-is_going w ↦
-          let off : is_going (state_of p l.source).outcome ≡ false = ap is_going (sym (w.outcome.ensures p)) ∙ (sym w.is_going.ensures ∙ w.if-not-is_going.true) in
-          all_to_end starts regions.of_block.items regions.count size p s taken c.args.n l.source t l.coming far (omega arith) off
+      | then-loop-left-test+in_default w ↦
+          let some = w.loop-left-test.true in
+          let none = not_some l.coming w.in_default.not-Some in
+          all_to_end starts regions.of_block.items regions.count size p s taken c.args.n l.source t l.coming far (omega arith) (l.invariant.ended p is none some)
     ]

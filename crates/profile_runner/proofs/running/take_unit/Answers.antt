@@ -1,7 +1,7 @@
 use Rattle.std.proofs.Common.{◌∙◌, None, refl, sym, subst}
 use Rattle.object_machine.specs.Machine.{state_of}
 use Rattle.profile_runner.specs.Tallies.{IsNext}
-use Rattle.profile_runner.proofs.TakingLemmas.{none_of}
+use Rattle.profile_runner.proofs.TakingLemmas.{none_of, some_of}
 use Rattle.profile_runner.proofs.running.take_unit.Goals as goal
 
 pub returns-then-not-is_going : goal.returns-then-not-is_going
@@ -15,6 +15,7 @@ returns-then-not-is_going c p starts is ascending same =
       accessed = c.access.ensures;
       next_is = subst (λ goes. IsNext starts goes (state_of p c.step.new.self).pc None) (sym ended) refl;
       inside = λ stay. cc;
+      ended = λ off none. ended;
     }
 
 pub returns : goal.returns
@@ -28,4 +29,5 @@ returns c p starts is ascending same =
       accessed = c.access-2.ensures;
       next_is = c.next_block-next.ensures p starts step.0 ascending same;
       inside = λ stay. (none_of c.next_block-next.result c.is_none.result c.is_none.ensures stay, going);
+      ended = λ off none. absurd (some_of c.next_block-next.result c.is_none.result c.is_none.ensures off none);
     }

@@ -10,9 +10,9 @@ use Rattle.profile_runner.proofs.running.take_units.Given as goal
 abbrev pub invariant-loop-left : goal.invariant-loop-left
 invariant-loop-left l = record {
   few : l.left ≤ l.most;
-  begun : (c : Course) (i u : ℕ) → MayTake c i u l.most l.initial.source l.initial.tally → IsBegun c (i + (l.most - l.left)) (suc (u + (l.most - l.left))) l.source l.tally;
-  going : (c : Course) (i u : ℕ) → MayTake c i u l.most l.initial.source l.initial.tally → (state_of c.program l.source).outcome ≡ GoesOn;
-  closed : (c : Course) (i u : ℕ) → MayTake c i u l.most l.initial.source l.initial.tally → l.left < l.most → (z : Tally) → HasLed None l.tally z → StandsAt c (i + (l.most - l.left)) (u + (l.most - l.left)) l.source z None;
+  begun : (c : Course) (i : ℕ) → MayTake c i l.most l.initial.source l.initial.tally → IsBegun c (i + (l.most - l.left)) (suc (l.most - l.left)) l.source l.tally;
+  going : (c : Course) (i : ℕ) → MayTake c i l.most l.initial.source l.initial.tally → (state_of c.program l.source).outcome ≡ GoesOn;
+  closed : (c : Course) (i : ℕ) → MayTake c i l.most l.initial.source l.initial.tally → l.left < l.most → (z : Tally) → HasLed None l.tally z → StandsAt c (i + (l.most - l.left)) (l.most - l.left) l.source z None;
 }
 
 abbrev pub decreases-loop-left : goal.decreases-loop-left

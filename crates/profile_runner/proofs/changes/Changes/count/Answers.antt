@@ -2,20 +2,13 @@ use Rattle.std.proofs.Common.{sym}
 use Rattle.profile_runner.specs.Counts.{plain_rows}
 use Rattle.profile_runner.specs.Tallies.{is_switch, is_leave, is_enter, is_entry}
 use Rattle.list_checks.specs.Sorted.{is_number}
-use Rattle.profile_runner.proofs.CountLemmas.{adds_none, adds_none_in, adds_same, adds_same_in}
-use Rattle.profile_runner.proofs.TestLemmas.{no_switch, no_leave, no_enter, one_switch, one_leave, one_enter}
+use Rattle.profile_runner.proofs.CountLemmas.{adds_same, adds_same_in}
+use Rattle.profile_runner.proofs.TestLemmas.{one_switch, one_leave, one_enter}
+use Rattle.profile_runner.proofs.TallyLemmas.{no_change}
 use Rattle.profile_runner.proofs.changes.Changes.count.Goals as goal
 
 pub returns-then-before-after : goal.returns-then-before-after
-returns-then-before-after c =
-    let old = c.args.self.now in
-    let before = c.args.before in
-    rw (sym c.if-before-after.true)
-    (record {
-      switches_add = adds_none_in (plain_rows old.switches.items) (is_switch before before) (λ s r inside. no_switch before s r);
-      leaves_add = adds_none old.leaves.items (is_leave before before) (no_leave before);
-      enters_add = adds_none old.enters.items (is_enter before before) (no_enter before);
-    })
+returns-then-before-after c = rw (sym c.if-before-after.true) (no_change c.args.self.now c.args.before)
 
 pub returns : goal.returns
 returns c =
