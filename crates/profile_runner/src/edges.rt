@@ -12,14 +12,15 @@ pub(crate) fn add_edge(row: &mut Vec<Edge>, from: u32, to: u32) -> Result<(), Al
     requires room { All (λ e. e.count < 18446744073709551615) row.old.items }
     ensures { OnOk result (row.new.items ≡ with_edge row.old.items from to) }
 {
-    match find_edge(row, to) {
+    match search_edge(row, to) {
         Ok(place) => row[place].count += 1,
         Err(place) => row.insert(place, Edge { from, to, count: 1 })?,
     }
     Ok(())
 }
 
-/// Counts the edge to `to`, if it is one of these, and tells whether it is.
+/// Counts the edge to `to`, if it is one of these, and tells whether it is. The first two are looked at first: most blocks
+/// have no more.
 #[inline(always)]
 pub(crate) fn count_known(row: &mut Vec<Edge>, to: u32) -> bool
     requires ascending { Ascend 0 row.old.items }
@@ -27,31 +28,31 @@ pub(crate) fn count_known(row: &mut Vec<Edge>, to: u32) -> bool
     ensures known { result ≡ true → (from : ℕ) → row.new.items ≡ with_edge row.old.items from to }
     ensures other { result ≡ false → row.new.items ≡ row.old.items }
 {
-    match find_edge(row, to) {
+    if leads_to(row, 0, to) {
+        count_at(row, 0, to);
+        return true;
+    }
+    if leads_to(row, 1, to) {
+        count_at(row, 1, to);
+        return true;
+    }
+    match search_edge(row, to) {
         Ok(place) => {
-            row[place].count += 1;
+            count_at(row, place, to);
             true
         }
         Err(_) => false,
     }
 }
 
-/// The place of the edge to `to`, or that where it belongs. The first two are looked at first: most blocks have no more.
+/// Counts edge `k`, which leads to `to`.
 #[inline(always)]
-fn find_edge(row: &[Edge], to: u32) -> Result<usize, usize>
-    requires { Ascend 0 row.now }
-    ensures { MatchResult result (IsFoundAt row.now to) (IsGapAt row.now to) }
+fn count_at(row: &mut Vec<Edge>, k: usize, to: u32)
+    requires found { IsFoundAt row.old.items to k }
+    requires room { All (λ e. e.count < 18446744073709551615) row.old.items }
+    ensures { (from : ℕ) → row.new.items ≡ with_edge row.old.items from to }
 {
-    if leads_to(row, 0, to) {
-        return Ok(0);
-    }
-    if leads_to(row, 1, to) {
-        return Ok(1);
-    }
-    match search_edge(row, to) {
-        Ok(place) => Ok(place),
-        Err(place) => Err(place),
-    }
+    row[k].count += 1;
 }
 
 /// Whether there is an edge `k`, which leads to `to`.
