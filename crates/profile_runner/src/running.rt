@@ -123,6 +123,7 @@ fn take_blocks(
     ensures program { OnOk result ((p : Program) → IsProgram p source.old → IsProgram p source.new) }
     ensures run { IfOk result (λ r. (p : Program) (size : ℕ) → IsProgram p source.old → IsNew (length parts.now.code.now.blocks.items) size parts.now.regions.now.count first tally.old → IsAll (starts_of parts.now.code.now) parts.now.regions.now.of_block.items parts.now.regions.now.count size p (state_of p source.old) (state_of p source.new) n (timed r.0 r.1 tally.new)) }
 {
+    let regions = parts.regions;
     let mut coming = Some(first);
     let mut left = n;
     let mut since = n;
@@ -133,7 +134,7 @@ fn take_blocks(
         };
         due = tell_steps(progress, due, left, n);
         since = left;
-        let (rest, next) = count_units(tally, source, parts.regions, block, left)?;
+        let (rest, next) = count_units(tally, source, regions, block, left)?;
         left = rest;
         coming = next;
     }
