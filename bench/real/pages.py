@@ -18,7 +18,7 @@ def segments(file: bytes) -> list[tuple[int, bytes]]:
 def paged(file: bytes, further: list[tuple[int, int]]) -> bytes:
     """The same program with a segment for each run of pages, and with further ranges (base, size) of zeros."""
     pages: dict[int, bytearray] = {}
-    for start, content in [*segments(file), *((base, bytes(size)) for base, size in further)]:
+    for start, content in [*((base, bytes(size)) for base, size in further), *segments(file)]:
         for at in range(start // PAGE, -(-(start + len(content)) // PAGE)):
             page, first = pages.setdefault(at, bytearray(PAGE)), at * PAGE
             low, high = max(start, first), min(start + len(content), first + PAGE)

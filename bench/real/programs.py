@@ -24,7 +24,7 @@ FLAGS = ("-march=rv32im -mabi=ilp32 -O2 -fno-section-anchors --specs=picolibc.sp
 RELOCATIONS = "-Wl,--emit-relocs -Wl,--no-relax".split()
 LIST = "deb-src [signed-by=/usr/share/keyrings/debian-archive-keyring.gpg] http://deb.debian.org/debian bookworm main\n"
 SPM = 0x01000000
-FURTHER = [(0x00400000, 0x100000), (SPM, 0x10000)]  # the stack and the scratchpad, under qemu
+FURTHER = [(0x00080000, 0x10000), (0x00400000, 0x100000), (SPM, 0x10000)]  # stacks and the scratchpad, under qemu
 MAIN, NEAR = 10, 2  # prices of an access
 
 
@@ -142,18 +142,30 @@ def linker_script() -> Path:
     return path
 
 
-def words_of(name: str) -> list[object]:
+def driver(name: str, rounds: int = 1) -> list[object]:
+    """What uses a program: its main function, so many times."""
+    path = HERE / f"use_{name}.c"
+    return [path] if rounds == 1 else [f"-DROUNDS={rounds}", f'-DDRIVER="{path}"', HERE / "rounds.c"]
+
+
+def words_of(name: str, rounds: int = 1) -> list[object]:
     """What the compiler is given for all sources of a program but the start code."""
     program = PROGRAMS[name]
     (OUT / "expat_config.h").touch()
-    return [f"-I{HERE}", f"-I{OUT}", *program.flags.split(), HERE / "layer.c", HERE / f"use_{name}.c", *program.sources.split()]
+    return [f"-I{HERE}", f"-I{OUT}", *program.flags.split(), HERE / "layer.c", *driver(name, rounds), *program.sources.split()]
 
 
-def built(name: str) -> Path:
-    path = OUT / f"{name}.elf"
-    words = [GCC, *FLAGS, *RELOCATIONS, "-T", linker_script(), TOP / "examples/crt0.S", *words_of(name), "-o", path]
+def built(name: str, rounds: int = 1, path: Path | None = None) -> Path:
+    path = path or OUT / f"{name}.elf"
+    words = [GCC, *FLAGS, *RELOCATIONS, "-T", linker_script(), TOP / "examples/crt0.S", *words_of(name, rounds), "-o", path]
     subprocess.run(list(map(str, words)), cwd=sources(PROGRAMS[name].package), check=True)
     return path
+
+
+def board_of(name: str, size: int) -> str:
+    """A board with so many bytes of scratchpad."""
+    fixed = json.dumps(["arena", *PROGRAMS[name].fix])
+    return f"spm = [{SPM:#x}, {size}]\nfix = {fixed}\n" + (HERE / "board.toml").read_text()
 
 
 def listing(package: str) -> bytes:

@@ -15,6 +15,7 @@ static void add(const MD_CHAR *text, MD_SIZE count, void *data)
 int main(void)
 {
     unsigned count = read_input();
+    length = 0;
     int status = md_html(input, count, add, 0, MD_DIALECT_GITHUB, 0);
     put_bytes(page, length);
     return -status;
