@@ -109,7 +109,8 @@ def apt(*words: str) -> None:
     options = {"Dir::Etc::sourcelist": folder / "sources.list", "Dir::Etc::sourceparts": "-", "Dir::State::lists": folder / "lists",
                "Dir::Cache": folder / "cache", "APT::Get::List-Cleanup": "0", "APT::Sandbox::User": "root"}
     given = [it for key, value in options.items() for it in ("-o", f"{key}={value}")]
-    subprocess.run(["apt-get", "-q", *given, *words], cwd=OUT, check=True, stdout=subprocess.DEVNULL)
+    if subprocess.run(["apt-get", "-q", *given, *words], cwd=OUT, stdout=subprocess.DEVNULL).returncode:
+        raise OSError(f"apt-get {' '.join(words)} failed: is there a network?")
 
 
 def archive(package: str) -> Path:
