@@ -1,4 +1,4 @@
-/* Sorts an array of pointers to records by two keys, over and over. */
+/* Merges an array of pointers to records into the order of two keys, over and over. */
 #include "calls.h"
 
 enum { COUNT = 4000, ROUNDS = 24 };
@@ -8,7 +8,7 @@ struct record {
 };
 
 static struct record records[COUNT];
-static struct record *sorted[COUNT];
+static struct record *pointers[COUNT], *room[COUNT];
 static unsigned seed = 1;
 
 static unsigned next(void)
@@ -21,24 +21,30 @@ static int is_before(const struct record *one, const struct record *other)
     return one->group != other->group ? one->group < other->group : one->key < other->key;
 }
 
-static void sort(struct record **low, struct record **high)
+static int least(int one, int other)
 {
-    while (low < high) {
-        struct record *pivot = low[(high - low) / 2], **left = low, **right = high;
-        do {
-            while (is_before(*left, pivot))
-                left++;
-            while (is_before(pivot, *right))
-                right--;
-            if (left <= right) {
-                struct record *moved = *left;
-                *left++ = *right;
-                *right-- = moved;
-            }
-        } while (left <= right);
-        sort(low, right);
-        low = left;
+    return one < other ? one : other;
+}
+
+/* Merges two runs that follow each other, of at most so many pointers each. */
+static void merge(struct record **from, struct record **to, int first, int length)
+{
+    int left = first, right = least(first + length, COUNT), middle = right, end = least(right + length, COUNT);
+    for (int k = first; k < end; k++)
+        to[k] = left < middle && (right == end || !is_before(from[right], from[left])) ? from[left++] : from[right++];
+}
+
+/* The pointers in their order, in one of both arrays. */
+static struct record **sort(struct record **from, struct record **to)
+{
+    for (int length = 1; length < COUNT; length *= 2) {
+        for (int first = 0; first < COUNT; first += 2 * length)
+            merge(from, to, first, length);
+        struct record **other = from;
+        from = to;
+        to = other;
     }
+    return from;
 }
 
 int main(void)
@@ -47,9 +53,9 @@ int main(void)
     for (int round = 0; round < ROUNDS; round++) {
         for (int k = 0; k < COUNT; k++) {
             records[k] = (struct record){next() >> 24, next(), {k, round}};
-            sorted[k] = &records[k];
+            pointers[k] = &records[k];
         }
-        sort(sorted, sorted + COUNT - 1);
+        struct record **sorted = sort(pointers, room);
         for (int k = 0; k < COUNT; k++)
             sum = sum * 31 + sorted[k]->payload[0];
     }
