@@ -1,4 +1,4 @@
-use crate::cures::text_at;
+use crate::cures::{Cure, text_at};
 use crate::notes::{Notes, Piece};
 use board_config::BoardFault;
 use std::alloc::{AllocError, Global};
@@ -54,6 +54,11 @@ const VALUES: [&str; 20] = [
 /// How an ELF file begins.
 const ELF_MAGIC: &[u8] = b"\x7fELF";
 
+const ELF_FILE: Cure = Cure {
+    cause: "the board is an ELF file",
+    first: "write FILE, and RESULT if there is one, before BOARD",
+};
+
 /// A line of a text, without its newline.
 #[derive(Clone, Copy)]
 struct Line<'a> {
@@ -70,11 +75,11 @@ pub fn explain_board(notes: &mut Notes, text: &[u8], fault: &BoardFault) {
         BoardFault::NotToml => say_syntax(notes, text),
         BoardFault::Missing { key } => notes.say(&[
             Piece::Text("the table [price] of the board lacks "),
-            Piece::Name(key_name(*key).as_bytes()),
+            Piece::Name(text_at(&KEYS, key.saturating_sub(1)).as_bytes()),
             Piece::Text(": give all six prices, or no table"),
         ]),
         BoardFault::WrongType { key } | BoardFault::OutOfRange { key } => {
-            let name = key_name(*key).as_bytes();
+            let name = text_at(&KEYS, key.saturating_sub(1)).as_bytes();
             say_line_of_key(notes, text, name);
             notes.say(&[
                 Piece::Name(name),
@@ -97,10 +102,7 @@ pub fn explain_board(notes: &mut Notes, text: &[u8], fault: &BoardFault) {
 /// Where a text is no TOML, and why.
 fn say_syntax(notes: &mut Notes, text: &[u8]) {
     if text.starts_with(ELF_MAGIC) {
-        notes.say_cause(
-            "the board is an ELF file",
-            "write FILE, and RESULT if there is one, before BOARD",
-        );
+        ELF_FILE.say(notes);
         return;
     }
     let Err(error) = toml::table_from_slice(notes.alloc(), text) else {
@@ -113,7 +115,9 @@ fn say_syntax(notes: &mut Notes, text: &[u8]) {
 }
 
 fn say_position(notes: &mut Notes, text: &[u8], place: usize, reason: &str) {
-    let line = line_at(text, place);
+    let Some(line) = line_of(text, Sought::Place(place)) else {
+        return;
+    };
     notes.say(&[
         Piece::Text("line "),
         Piece::Number(line.number),
@@ -126,7 +130,7 @@ fn say_position(notes: &mut Notes, text: &[u8], place: usize, reason: &str) {
 }
 
 fn say_line_of_key(notes: &mut Notes, text: &[u8], key: &[u8]) {
-    if let Some(line) = line_of_key(text, key) {
+    if let Some(line) = line_of(text, Sought::Key(key)) {
         say_line(notes, &line);
     }
 }
@@ -140,47 +144,34 @@ fn say_line(notes: &mut Notes, line: &Line) {
     ]);
 }
 
-fn key_name(key: u32) -> &'static str {
-    text_at(&KEYS, key.saturating_sub(1))
+/// Which line of a text is looked for.
+#[derive(Clone, Copy)]
+enum Sought<'a> {
+    /// The one that has the byte at a place, or that ends there.
+    Place(usize),
+    /// The first that begins with a key and an equals sign.
+    Key(&'a [u8]),
 }
 
-/// The line that has the byte at a place, or else the last one before it.
-fn line_at(text: &[u8], place: usize) -> Line<'_> {
+/// The line of a text that is looked for.
+fn line_of<'a>(text: &'a [u8], sought: Sought) -> Option<Line<'a>> {
     let mut number: u64 = 0;
     let mut start: usize = 0;
     for line in text.split(|byte| *byte == b'\n') {
         number = number.saturating_add(1);
         let end = start.saturating_add(line.len());
-        if place <= end {
-            return Line {
-                number,
-                start,
-                text: line,
-            };
-        }
-        start = end.saturating_add(1);
-    }
-    Line {
-        number,
-        start,
-        text: &[],
-    }
-}
-
-/// The first line that begins with a key and an equals sign.
-fn line_of_key<'a>(text: &'a [u8], key: &[u8]) -> Option<Line<'a>> {
-    let mut number: u64 = 0;
-    let mut start: usize = 0;
-    for line in text.split(|byte| *byte == b'\n') {
-        number = number.saturating_add(1);
-        if begins_with_key(line, key) {
+        let is_found = match sought {
+            Sought::Place(place) => place <= end,
+            Sought::Key(key) => begins_with_key(line, key),
+        };
+        if is_found {
             return Some(Line {
                 number,
                 start,
                 text: line,
             });
         }
-        start = start.saturating_add(line.len()).saturating_add(1);
+        start = end.saturating_add(1);
     }
     None
 }
@@ -194,7 +185,7 @@ fn begins_with_key(line: &[u8], key: &[u8]) -> bool {
 
 /// Whether a board gives a key, by a line that begins with it.
 pub fn gives_key(text: &[u8], key: &[u8]) -> bool {
-    line_of_key(text, key).is_some()
+    line_of(text, Sought::Key(key)).is_some()
 }
 
 /// The text of a board with further names in its list `fix`.
@@ -219,9 +210,15 @@ pub fn text_with_fixed(alloc: Global, text: &[u8], names: &[&[u8]]) -> Result<Ve
 
 /// Where the names begin of a list that a board gives.
 fn place_in_list(text: &[u8], key: &[u8]) -> Option<usize> {
-    let line = line_of_key(text, key)?;
-    let bracket = line.text.iter().position(|byte| *byte == b'[')?;
-    Some(line.start.saturating_add(bracket).saturating_add(1))
+    let line = line_of(text, Sought::Key(key))?;
+    let mut place = line.start;
+    for byte in line.text {
+        place = place.saturating_add(1);
+        if *byte == b'[' {
+            return Some(place);
+        }
+    }
+    None
 }
 
 /// Adds a name as TOML has it in quotes.

@@ -1,8 +1,24 @@
+use crate::cures::Cure;
 use crate::notes::{Notes, Piece};
 
 /// What to do where a result is none of its file.
 const RELINK: &str =
     "relink this file for this board again, and compare it with what is written then";
+
+/// A result that does not do what the program does, where the file itself does.
+pub const RESULT_DIFFERS: Cure = Cure {
+    cause: "RESULT does not do on this input what the program does, and FILE does",
+    first: RELINK,
+};
+
+/// A file that does not do what its program does, beside a result that does not do so either.
+pub const BOTH_DIFFER: &str = "neither FILE nor RESULT does on this input what the program does";
+
+/// A file that does not do what its program does, beside a result that does.
+pub const FILE_DIFFERS: &str = "RESULT does on this input what the program does, and FILE does not";
+
+/// What to do where a program went on, and so did its result.
+pub const MORE_STEPS: &str = "give the board more `steps`, or take a shorter input";
 
 /// How a result ended of whose program it is known that it goes on.
 #[derive(Clone, Copy)]
@@ -11,24 +27,6 @@ pub enum ResultEnd {
     Exited(u8),
     /// The instruction at `pc` trapped.
     Trapped { pc: u32 },
-}
-
-/// A result that does not do what the program does, where the file itself does.
-pub fn say_result_differs(notes: &mut Notes) {
-    notes.say_cause(
-        "RESULT does not do on this input what the program does, and FILE does",
-        RELINK,
-    );
-}
-
-/// A file that does not do what its program does, beside a result that does not do so either, or does. It fails only where
-/// no memory was left.
-pub fn say_file_differs(notes: &mut Notes, result_differs: bool) {
-    notes.say_words(if result_differs {
-        "neither FILE nor RESULT does on this input what the program does"
-    } else {
-        "RESULT does on this input what the program does, and FILE does not"
-    });
 }
 
 /// A program that went on at the end of the board's steps, and how many steps of its result were compared. It fails only
@@ -41,11 +39,6 @@ pub fn say_compared(notes: &mut Notes, steps: u64, compared: u64) {
         Piece::Number(compared),
     ]);
     notes.end(" steps, and was compared no further");
-}
-
-/// What to do where a program went on, and so did its result.
-pub fn say_more_steps(notes: &mut Notes) {
-    notes.say_first("give the board more `steps`, or take a shorter input");
 }
 
 /// A result that ended within the steps of a program that went on.

@@ -2,7 +2,7 @@ use crate::notes::Notes;
 
 /// Why something is refused, and what to do first.
 #[derive(Clone, Copy)]
-pub(crate) struct Cure {
+pub struct Cure {
     pub(crate) cause: &'static str,
     pub(crate) first: &'static str,
 }
@@ -15,8 +15,9 @@ pub(crate) struct CureRow {
 
 impl Cure {
     /// A line of the cause, and one of what to do first.
-    pub(crate) fn say(&self, notes: &mut Notes) {
-        notes.say_cause(self.cause, self.first);
+    pub fn say(&self, notes: &mut Notes) {
+        notes.say_words(self.cause);
+        notes.say_first(self.first);
     }
 }
 

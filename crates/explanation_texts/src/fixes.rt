@@ -1,8 +1,8 @@
 use crate::cures::{before_name, text_at};
+use crate::faults::{AddressFault, Way};
 use crate::notes::{Notes, Piece};
 use crate::objects::say_load_address;
 use crate::runs::{Involved, REASONS, say_instruction};
-use fault_trail::{AddressFault, Way};
 use unchecked_file::UncheckedFile;
 
 /// The greatest word, as the number -1.
@@ -132,9 +132,7 @@ fn put_involved(notes: &mut Notes, words: &str, name: &[u8]) {
 }
 
 /// How many more address faults there were on the way to a list.
-pub fn say_more_faults(notes: &mut Notes, count: u64) {
-    notes.say_number("", count, " more address faults were met likewise");
-}
+pub const MORE_FAULTS: &str = " more address faults were met likewise";
 
 /// That the run meets an address fault even with all objects kept.
 pub fn say_no_list(notes: &mut Notes, file: &UncheckedFile, fault: &AddressFault) {
@@ -197,6 +195,7 @@ fn other_cure(fault: &AddressFault, involved: &Involved) -> &'static str {
     if is_made(fault, Way::Tested) {
         return "branch on the pointer, in place of keeping whether it is null as a number";
     }
+    let compared = fault.culprit.compared;
     match fault.why {
         1 => "correct the program",
         4 => "clear or copy no section by its addresses",
@@ -204,25 +203,22 @@ fn other_cure(fault: &AddressFault, involved: &Involved) -> &'static str {
             "compile with -fno-ivopts, where the source does no such arithmetic: no hash of a pointer, no bits in it, no sentinel"
         }
         5 => "compile with -mno-explicit-relocs",
-        7 => comparison_cure(fault, involved),
+        7 if compared == Some(MINUS_ONE) => "tell failure by NULL in place of (void *)-1",
+        7 if involved.has_anchors => {
+            "compile with -fno-section-anchors (an anchor keeps the other object)"
+        }
         _ => "",
     }
 }
 
 /// Whether a value of a fault was made so.
 fn is_made(fault: &AddressFault, way: Way) -> bool {
-    let of_value = fault.culprit.origin.map(|origin| origin.way);
-    let of_other = fault.culprit.other.map(|origin| origin.way);
-    of_value == Some(way) || of_other == Some(way)
-}
-
-/// What to do where an address is compared.
-fn comparison_cure(fault: &AddressFault, involved: &Involved) -> &'static str {
-    if fault.culprit.compared == Some(MINUS_ONE) {
-        return "tell failure by NULL in place of (void *)-1";
+    for origin in &[fault.culprit.origin, fault.culprit.other] {
+        if let Some(origin) = origin {
+            if origin.way == way {
+                return true;
+            }
+        }
     }
-    if involved.has_anchors {
-        return "compile with -fno-section-anchors (an anchor keeps the other object)";
-    }
-    ""
+    false
 }

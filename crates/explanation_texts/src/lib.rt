@@ -5,6 +5,7 @@ mod answers;
 mod boards;
 mod comparisons;
 mod cures;
+mod faults;
 mod files;
 mod fixes;
 mod instructions;
@@ -19,39 +20,38 @@ mod relocations;
 mod runs;
 mod savings;
 mod staying;
+mod terminal;
 mod usage;
 
 pub use answers::{
-    explain_status, say_listed_twice, say_many_blocks, say_small_patch, say_unknown_function,
+    LISTED_TWICE, UNKNOWN_FUNCTION, explain_status, say_listed, say_many_blocks, say_small_patch,
 };
 pub use boards::{explain_board, gives_key, text_with_fixed};
 pub use comparisons::{
-    ResultEnd, say_compared, say_ended_early, say_file_differs, say_more_steps, say_result_differs,
+    BOTH_DIFFER, FILE_DIFFERS, MORE_STEPS, RESULT_DIFFERS, ResultEnd, say_compared, say_ended_early,
 };
-pub use files::{
-    UsedFile, say_certificate_alone, say_unprinted, say_unread, say_unwritten, say_used,
-};
+pub use cures::Cure;
+pub use faults::{AddressFault, Culprit, Origin, Unpaired, Way};
+pub use files::{explain_unwritten, say_unread, say_unread_input};
 pub use fixes::{
-    FixEnd, FixList, may_keep, say_fault_cure, say_fix, say_further_fault, say_more_faults,
-    say_no_list,
+    FixEnd, FixList, MORE_FAULTS, may_keep, say_fault_cure, say_fix, say_further_fault, say_no_list,
 };
-pub use mixes::{
-    say_bad_line, say_faulty_input, say_unended_inputs, say_unpaired_input, say_unread_input,
-};
+pub use mixes::{FAULTY_INPUT, UNPAIRED_INPUT, say_bad_line, say_line, say_unended_inputs};
 pub use notes::Notes;
 pub use objects::{
-    Label, PinnedSection, is_anchor, say_load_address, say_more_sections, say_nothing_moved,
-    say_pinned, say_prices, say_short_run,
+    LONGER_RUN, LOWER_PRICES, Label, PinnedSection, is_anchor, say_load_address, say_more_sections,
+    say_nothing_moved, say_pinned,
 };
-pub use pairing::{MixedParts, say_measured_unpaired, say_unpaired};
-pub use refusals::{explain_elf, explain_layout, explain_no_code};
+pub use pairing::{MixedParts, UNPAIRED_RUN, say_unpaired};
+pub use refusals::{NO_CODE, explain_elf, explain_layout};
 pub use regions::{
     Barrier, InwardCalls, say_full_patch, say_idle_driver, say_inward, say_lost_region,
 };
 pub use runs::{Involved, explain_fault, say_calling_itself, say_still_running, say_trapped};
 pub use savings::{
-    Measured, MovedItem, MovedPart, Standing, Used, say_fixed_cost, say_more_items, say_moved_item,
-    say_overlay_room, say_patch_room, say_saved, say_scratchpad_room,
+    Measured, MovedItem, MovedPart, PATCH_USED, SCRATCHPAD_USED, Standing, Used, say_fixed_cost,
+    say_more_items, say_moved_item, say_overlay_room, say_room, say_saved,
 };
 pub use staying::{Room, StayingItem, StayingReason, say_staying, say_staying_rest};
+pub use terminal::Terminal;
 pub use usage::{Command, command_of, explain_words};

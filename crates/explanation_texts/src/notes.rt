@@ -18,6 +18,8 @@ pub(crate) enum Piece<'a> {
     Number(u64),
     /// An immediate operand in decimal.
     Signed(i32),
+    /// Thousandths, in percent.
+    Percent(u64),
     /// An address or a word in hexadecimal.
     Hex(u32),
 }
@@ -69,7 +71,22 @@ impl Notes {
     /// Goes on with a line.
     pub(crate) fn put(&mut self, pieces: &[Piece]) {
         for piece in pieces {
-            self.push(piece);
+            match *piece {
+                Piece::Text(text) => self.add(text),
+                Piece::Name(name) => self.push_name(name),
+                Piece::Quoted(name) => {
+                    if push_quoted(&mut self.text, name).is_err() {
+                        self.cut();
+                    }
+                }
+                Piece::Number(number) => self.show(number),
+                Piece::Signed(number) => self.show(number),
+                Piece::Percent(number) => {
+                    let (whole, tenths) = (number / 10, number % 10);
+                    self.show(format_args!("{whole}.{tenths} %"));
+                }
+                Piece::Hex(word) => self.show(format_args!("{word:#x}")),
+            }
         }
     }
 
@@ -87,26 +104,20 @@ impl Notes {
     }
 
     /// Adds a line of words.
-    pub(crate) fn say_words(&mut self, words: &str) {
+    pub fn say_words(&mut self, words: &str) {
         self.begin(words);
         self.end("");
     }
 
     /// Adds a line of a number between words.
-    pub(crate) fn say_number(&mut self, before: &str, number: u64, behind: &str) {
+    pub fn say_number(&mut self, before: &str, number: u64, behind: &str) {
         self.begin(before);
         self.show(number);
         self.end(behind);
     }
 
-    /// Adds a line of why something is refused, and one of what to do first.
-    pub(crate) fn say_cause(&mut self, cause: &str, cure: &str) {
-        self.say_words(cause);
-        self.say_first(cure);
-    }
-
     /// Adds a line of what to do first.
-    pub(crate) fn say_first(&mut self, cure: &str) {
+    pub fn say_first(&mut self, cure: &str) {
         self.begin("first: ");
         self.end(cure);
     }
@@ -122,21 +133,6 @@ impl Notes {
         match format!(in self.alloc; "{value}") {
             Ok(text) => self.add(text.as_str()),
             Err(_) => self.cut(),
-        }
-    }
-
-    fn push(&mut self, piece: &Piece) {
-        match *piece {
-            Piece::Text(text) => self.add(text),
-            Piece::Name(name) => self.push_name(name),
-            Piece::Quoted(name) => {
-                if push_quoted(&mut self.text, name).is_err() {
-                    self.cut();
-                }
-            }
-            Piece::Number(number) => self.show(number),
-            Piece::Signed(number) => self.show(number),
-            Piece::Hex(word) => self.show(format_args!("{word:#x}")),
         }
     }
 

@@ -1,6 +1,5 @@
 use crate::cures::before_name;
 use crate::notes::{Notes, Piece};
-use crate::savings::put_percent;
 use unchecked_file::{RawSegment, UncheckedFile};
 
 /// How the names begin of the anchors that GCC makes for sections.
@@ -101,16 +100,11 @@ pub fn say_nothing_moved(notes: &mut Notes, movable: u64, total: u64) {
 }
 
 /// What to do where no access costs less in the scratchpad.
-pub fn say_prices(notes: &mut Notes) {
-    notes.say_first(
-        "let spm_fetch, spm_read and spm_write in [price] of the board be less than main_fetch, main_read and main_write",
-    );
-}
+pub const LOWER_PRICES: &str =
+    "let spm_fetch, spm_read and spm_write in [price] of the board be less than main_fetch, main_read and main_write";
 
 /// What to do where all objects may move, and none pays.
-pub fn say_short_run(notes: &mut Notes) {
-    notes.say_first("measure a longer run, as on a longer input: a copy is paid once");
-}
+pub const LONGER_RUN: &str = "measure a longer run, as on a longer input: a copy is paid once";
 
 /// How the names end of output sections that have a library's objects alone, as in examples/board.ld.
 const LIBRARY: &[u8] = b".library";
@@ -122,7 +116,8 @@ const TOLD_SOURCES: usize = 4;
 /// sources are those that have anchors in it.
 pub fn say_pinned(notes: &mut Notes, section: &PinnedSection, sources: &[&[u8]]) {
     if section.is_zeros {
-        say_stay(notes, section, "`bss` of the board is \"fixed\"");
+        begin_stay(notes, section);
+        notes.end("`bss` of the board is \"fixed\"");
         notes.say_first(
             "write bss = \"movable\" into the board, if no start code clears the section by its addresses",
         );
@@ -131,11 +126,12 @@ pub fn say_pinned(notes: &mut Notes, section: &PinnedSection, sources: &[&[u8]])
         Some(label) if !section.is_zeros || is_anchor(label.name) => {
             say_label(notes, section, &label, sources)
         }
-        None if !section.is_zeros => say_stay(
-            notes,
-            section,
-            "`fix` of the board lists them, they overlap, or a relocation does not tell how their addresses are made",
-        ),
+        None if !section.is_zeros => {
+            begin_stay(notes, section);
+            notes.end(
+                "`fix` of the board lists them, they overlap, or a relocation does not tell how their addresses are made",
+            );
+        }
         _ => {}
     }
 }
@@ -150,14 +146,9 @@ pub fn say_more_sections(notes: &mut Notes, count: u64) {
     notes.say_number("objects of ", count, behind);
 }
 
-fn say_stay(notes: &mut Notes, section: &PinnedSection, reason: &str) {
-    notes.begin("");
-    put_stay(notes, section);
-    notes.end(reason);
-}
-
-fn put_stay(notes: &mut Notes, section: &PinnedSection) {
+fn begin_stay(notes: &mut Notes, section: &PinnedSection) {
     let is_one = section.fixed == 1;
+    notes.begin("");
     notes.put(&[
         Piece::Number(section.fixed),
         Piece::Text(if is_one {
@@ -174,8 +165,7 @@ fn say_label(notes: &mut Notes, section: &PinnedSection, label: &Label, sources:
     if section.is_zeros {
         notes.begin("with that they still stay: ");
     } else {
-        notes.begin("");
-        put_stay(notes, section);
+        begin_stay(notes, section);
     }
     notes.put(&[
         Piece::Text("a relocation in "),
@@ -187,9 +177,13 @@ fn say_label(notes: &mut Notes, section: &PinnedSection, label: &Label, sources:
     ]);
     notes.end(", and so none may move");
     if let Some(at_stake) = section.at_stake {
-        notes.begin("  at stake is up to ");
-        put_percent(notes, at_stake);
-        notes.end(" of the energy: what the reads and writes there would save in the scratchpad");
+        notes.say(&[
+            Piece::Text("  at stake is up to "),
+            Piece::Percent(at_stake),
+            Piece::Text(
+                " of the energy: what the reads and writes there would save in the scratchpad",
+            ),
+        ]);
     }
     if is_anchor(label.name) {
         say_anchor_cure(notes, section.name, sources);
@@ -213,14 +207,12 @@ fn say_anchor_cure(notes: &mut Notes, section: &[u8], sources: &[&[u8]]) {
             notes.put(&[Piece::Text(before), Piece::Name(source)]);
         }
     }
-    if let Some(more) = sources.len().checked_sub(TOLD_SOURCES) {
-        if more != 0 {
-            notes.put(&[
-                Piece::Text(" and of "),
-                Piece::Number(more as u64),
-                Piece::Text(" more sources"),
-            ]);
-        }
+    if sources.len() > TOLD_SOURCES {
+        notes.put(&[
+            Piece::Text(" and of "),
+            Piece::Number(sources.len().saturating_sub(TOLD_SOURCES) as u64),
+            Piece::Text(" more sources"),
+        ]);
     }
     notes.end(if sources.is_empty() {
         ""

@@ -1,7 +1,8 @@
+use crate::cures::Cure;
+use crate::faults::Unpaired;
 use crate::notes::{Notes, Piece};
 use crate::places::put_place;
 use crate::runs::say_instruction;
-use fault_trail::Unpaired;
 use unchecked_file::UncheckedFile;
 
 /// The objects of whose addresses a unit takes parts that don't belong together, by name.
@@ -14,9 +15,20 @@ pub struct MixedParts<'a> {
 }
 
 /// That a measured run is not paired.
-pub fn say_measured_unpaired(notes: &mut Notes) {
-    notes.say_words("the measured run is not paired: FILE may do something else than its program");
-}
+pub const UNPAIRED_RUN: &str =
+    "the measured run is not paired: FILE may do something else than its program";
+
+/// How a line on a unit ends that adds a low part to another upper part than its own, and the cure.
+const OTHER_UPPER: Cure = Cure {
+    cause: ", which its relocation does not name",
+    first: "make the address by lui, or by the upper part that the relocation names",
+};
+
+/// The same of an upper part whose low bits are taken as they are.
+const BARE_UPPER: Cure = Cure {
+    cause: ", which are those of the pc",
+    first: "make the address by lui, or add its low part before it is copied",
+};
 
 /// The first unit by which a run is not paired.
 pub fn say_unpaired(
@@ -25,42 +37,19 @@ pub fn say_unpaired(
     unpaired: &Unpaired,
     parts: &MixedParts,
 ) {
-    say_instruction(
-        notes,
-        file,
-        "the first instruction that is not paired stands",
-        unpaired.pc,
-    );
-    match unpaired.object {
+    let stands = "the first instruction that is not paired stands";
+    say_instruction(notes, file, stands, unpaired.pc);
+    let cure = match unpaired.object {
         Some(_) => {
             notes.begin("it adds the low part of an address in ");
             notes.put(&[Piece::Name(parts.low), Piece::Text(" to ")]);
+            OTHER_UPPER
         }
-        None => notes.begin("it takes the low bits of "),
-    }
-    put_upper(notes, file, unpaired, parts);
-    let (behind, cure) = end_of(unpaired);
-    notes.end(behind);
-    notes.say_first(cure);
-}
-
-/// How a line on a unit ends, and the cure: of a low part that is added to another upper part than its own, or of an upper part
-/// whose low bits are taken as they are.
-fn end_of(unpaired: &Unpaired) -> (&'static str, &'static str) {
-    match unpaired.object {
-        Some(_) => (
-            ", which its relocation does not name",
-            "make the address by lui, or by the upper part that the relocation names",
-        ),
-        None => (
-            ", which are those of the pc",
-            "make the address by lui, or add its low part before it is copied",
-        ),
-    }
-}
-
-/// Goes on with a line by an upper part, and where it was made.
-fn put_upper(notes: &mut Notes, file: &UncheckedFile, unpaired: &Unpaired, parts: &MixedParts) {
+        None => {
+            notes.begin("it takes the low bits of ");
+            BARE_UPPER
+        }
+    };
     notes.put(&[
         Piece::Text("the upper part of an address in "),
         Piece::Name(parts.upper),
@@ -72,4 +61,6 @@ fn put_upper(notes: &mut Notes, file: &UncheckedFile, unpaired: &Unpaired, parts
         }
         None => notes.put(&[Piece::Text(" that a lui made")]),
     }
+    notes.end(cure.cause);
+    notes.say_first(cure.first);
 }

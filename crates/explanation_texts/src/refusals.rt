@@ -64,7 +64,8 @@ const OTHER: Cure = Cure {
     first: "give what the linker wrote, without debug sections (strip -g)",
 };
 
-const NO_CODE: Cure = Cure {
+/// A file that has no code.
+pub const NO_CODE: Cure = Cure {
     cause: "no section that is loaded has code, or the entry is no word of it",
     first: "keep the section headers (link without -s, strip by strip -g alone), and give the start symbol, as -Wl,-e,_start",
 };
@@ -106,11 +107,6 @@ fn say_section<'a>(notes: &mut Notes, file: &UncheckedFile<'a>, section: u32, wo
     ]);
 }
 
-/// Why a file has no code.
-pub fn explain_no_code(notes: &mut Notes) {
-    NO_CODE.say(notes);
-}
-
 /// Why a program does not fit a board.
 pub fn explain_layout(notes: &mut Notes, file: &UncheckedFile, board: &Board, fault: &GraphFault) {
     match *fault {
@@ -138,7 +134,11 @@ pub fn explain_layout(notes: &mut Notes, file: &UncheckedFile, board: &Board, fa
             notes.say_words("the scratchpad of the board begins below address 16");
             notes.say_first("correct `spm` of the board")
         }
-        GraphFault::TooManyObjects { count } => say_many_objects(notes, count),
+        GraphFault::TooManyObjects { count } => {
+            let behind = " objects may move, and 4,096 are the limit";
+            notes.say_number("", u64::from(count), behind);
+            notes.say_first("keep some by `fix` of the board")
+        }
         GraphFault::Memory => {}
     }
 }
@@ -179,15 +179,6 @@ fn say_range(notes: &mut Notes, key: &str, range: &Range) {
         Piece::Text(" to "),
         Piece::Hex(range.base.wrapping_add(range.size)),
     ]);
-}
-
-fn say_many_objects(notes: &mut Notes, count: u32) {
-    notes.say_number(
-        "",
-        u64::from(count),
-        " objects may move, and 4,096 are the limit",
-    );
-    notes.say_first("keep some by `fix` of the board");
 }
 
 /// A segment outside the board's memories.

@@ -132,7 +132,9 @@ pub(crate) fn say_unsupported(notes: &mut Notes, file: &UncheckedFile, index: u3
         put_kind(notes, kind);
         notes.put(&[Piece::Text(" of "), Piece::Name(relocation.symbol)]);
         notes.end("");
-        say_changed(notes, file, relocation.at);
+        notes.begin("it changes the word");
+        put_place(notes, file, relocation.at);
+        notes.end("");
     }
     if THREAD_LOCAL.contains(&kind) {
         say_thread_local(notes, file);
@@ -150,9 +152,9 @@ fn say_thread_local(notes: &mut Notes, file: &UncheckedFile) {
             note_use(notes, file, &relocation, &mut uses);
         }
     }
-    match uses.len().checked_sub(TOLD_USES) {
-        None | Some(0) => {}
-        Some(more) => notes.say_number("  and ", more as u64, " more"),
+    if uses.len() > TOLD_USES {
+        let more = uses.len().saturating_sub(TOLD_USES) as u64;
+        notes.say_number("  and ", more, " more");
     }
     say_owners(notes, &uses);
 }
@@ -197,7 +199,12 @@ fn note_use<'a>(
 
 /// What to do, by whose the symbols are: the C library's `errno`, or variables of other sources.
 fn say_owners(notes: &mut Notes, uses: &[ThreadLocalUse]) {
-    let errors = uses.iter().filter(|found| found.symbol == ERRNO).count();
+    let mut errors: usize = 0;
+    for found in uses {
+        if found.symbol == ERRNO {
+            errors = errors.saturating_add(1);
+        }
+    }
     if errors == 0 {
         notes.say_first(VARIABLE_CURE);
         return;
@@ -218,10 +225,4 @@ fn put_kind(notes: &mut Notes, kind: u32) {
         return;
     }
     notes.put(&[Piece::Text(name)]);
-}
-
-fn say_changed(notes: &mut Notes, file: &UncheckedFile, at: u32) {
-    notes.begin("it changes the word");
-    put_place(notes, file, at);
-    notes.end("");
 }

@@ -1,8 +1,9 @@
+use crate::comparisons::MORE_STEPS;
 use crate::cures::text_at;
+use crate::faults::{AddressFault, Origin, Way};
 use crate::instructions::end_by_instruction;
 use crate::notes::{Notes, Piece};
 use crate::places::put_place;
-use fault_trail::{AddressFault, Origin, Way};
 use unchecked_file::UncheckedFile;
 
 /// What the reasons of address faults mean, by their numbers.
@@ -53,7 +54,7 @@ pub fn say_still_running(notes: &mut Notes, file: &UncheckedFile, steps: u64, at
         " steps, and the measured run went on; what is told is of these alone",
     );
     say_instruction(notes, file, "it stood", at);
-    notes.say_first("give the board more `steps`, or take a shorter input");
+    notes.say_first(MORE_STEPS);
 }
 
 /// A function that a compiler calls where it finds a loop that does the same, and that calls itself. It fails only where no

@@ -16,23 +16,13 @@ pub enum Measured {
 /// How many thousandths of the energy a choice saves.
 pub fn say_saved(notes: &mut Notes, thousandths: u64, of: Measured) {
     notes.begin("saves ");
-    put_percent(notes, thousandths);
+    notes.put(&[Piece::Percent(thousandths)]);
     notes.end(match of {
         Measured::Run => " of the energy of the measured run",
         Measured::Steps =>
             " of the energy of the measured steps, and may save less of the whole run",
         Measured::Mix => " of the energy of the listed runs",
     });
-}
-
-/// Goes on with a line by thousandths, in percent.
-pub(crate) fn put_percent(notes: &mut Notes, thousandths: u64) {
-    notes.put(&[
-        Piece::Number(thousandths / 10),
-        Piece::Text("."),
-        Piece::Number(thousandths % 10),
-        Piece::Text(" %"),
-    ]);
 }
 
 /// When an item stands in the scratchpad.
@@ -71,18 +61,15 @@ pub fn say_moved_item(notes: &mut Notes, item: &MovedItem, file: &UncheckedFile)
     put_part(notes, file, item.part);
     notes.put(&[Piece::Text(": ")]);
     match item.before {
-        Some(before) => {
-            put_percent(notes, before);
-            notes.put(&[Piece::Text(" of the energy before, ")]);
-            put_percent(notes, before.saturating_sub(item.saved));
-            notes.end(" after")
-        }
-        None => {
-            notes.put(&[Piece::Text("saves ")]);
-            put_percent(notes, item.saved);
-            notes.end("")
-        }
+        Some(before) => notes.put(&[
+            Piece::Percent(before),
+            Piece::Text(" of the energy before, "),
+            Piece::Percent(before.saturating_sub(item.saved)),
+            Piece::Text(" after"),
+        ]),
+        None => notes.put(&[Piece::Text("saves "), Piece::Percent(item.saved)]),
     }
+    notes.end("");
 }
 
 fn put_standing(notes: &mut Notes, standing: Standing) {
@@ -120,24 +107,21 @@ fn put_part(notes: &mut Notes, file: &UncheckedFile, part: MovedPart) {
 
 /// How many more items moved, and how many thousandths of the energy they save.
 pub fn say_more_items(notes: &mut Notes, count: u64, saved: u64) {
-    notes.begin("");
-    notes.put(&[
+    notes.say(&[
         Piece::Number(count),
         Piece::Text(" more items that moved save "),
+        Piece::Percent(saved),
     ]);
-    put_percent(notes, saved);
-    notes.end("");
 }
 
-/// How many thousandths of the energy are spent by a result whatever moves in it; nothing where that is none. It fails only
-/// where no memory was left.
+/// How many thousandths of the energy are spent by a result whatever moves in it; nothing where that is none.
 pub fn say_fixed_cost(notes: &mut Notes, thousandths: u64) {
-    if thousandths == 0 {
-        return;
+    if thousandths != 0 {
+        notes.say(&[
+            Piece::Text("the start of the program and changes of region cost "),
+            Piece::Percent(thousandths),
+        ]);
     }
-    notes.begin("the start of the program and changes of region cost ");
-    put_percent(notes, thousandths);
-    notes.end("");
 }
 
 /// How many bytes of some room are used.
@@ -147,39 +131,34 @@ pub struct Used {
     pub of: u64,
 }
 
-/// How full the scratchpad is, where nothing is overlaid.
-pub fn say_scratchpad_room(notes: &mut Notes, used: Used) {
-    notes.begin("");
-    put_used(notes, used);
-    notes.end(" bytes of the scratchpad are used");
+/// Of the scratchpad, where nothing is overlaid.
+pub const SCRATCHPAD_USED: &str = " bytes of the scratchpad are used";
+
+/// Of the patch range, behind what each result has there.
+pub const PATCH_USED: &str = " bytes of the patch range are used for what moved";
+
+/// How full some room is, with words of what it is.
+pub fn say_room(notes: &mut Notes, used: Used, words: &str) {
+    notes.say(&[
+        Piece::Number(used.bytes),
+        Piece::Text(" of "),
+        Piece::Number(used.of),
+        Piece::Text(words),
+    ]);
 }
 
-/// How full the scratchpad is before a region is entered, and while each region is current, in order. It fails only where no
-/// memory was left.
+/// How full the scratchpad is before a region is entered, and while each region is current, in order.
 pub fn say_overlay_room(notes: &mut Notes, used: &[Used]) {
     notes.begin("of the scratchpad are used");
     for (region, used) in used.iter().enumerate() {
-        notes.put(&[Piece::Text(if region == 0 { " " } else { ", " })]);
-        put_used(notes, *used);
         notes.put(&[
+            Piece::Text(if region == 0 { " " } else { ", " }),
+            Piece::Number(used.bytes),
+            Piece::Text(" of "),
+            Piece::Number(used.of),
             Piece::Text(" bytes in region "),
             Piece::Number(region as u64),
         ]);
     }
     notes.end("");
-}
-
-/// How full the patch range is, behind what each result has there.
-pub fn say_patch_room(notes: &mut Notes, used: Used) {
-    notes.begin("");
-    put_used(notes, used);
-    notes.end(" bytes of the patch range are used for what moved");
-}
-
-fn put_used(notes: &mut Notes, used: Used) {
-    notes.put(&[
-        Piece::Number(used.bytes),
-        Piece::Text(" of "),
-        Piece::Number(used.of),
-    ]);
 }

@@ -1,5 +1,4 @@
 use crate::notes::{Notes, Piece};
-use crate::savings::put_percent;
 
 /// Where there is too little room.
 #[derive(Clone, Copy)]
@@ -70,8 +69,10 @@ pub fn say_staying_rest(notes: &mut Notes, share: u64) {
 
 fn begin_staying(notes: &mut Notes, share: u64) {
     notes.begin("stays, with ");
-    put_percent(notes, share);
-    notes.put(&[Piece::Text(" of the energy before: ")]);
+    notes.put(&[
+        Piece::Percent(share),
+        Piece::Text(" of the energy before: "),
+    ]);
 }
 
 fn put_reason(notes: &mut Notes, item: &StayingItem) {

@@ -215,20 +215,16 @@ pub fn explain_words(notes: &mut Notes, words: &[String]) {
 
 /// A first word that is no command.
 fn explain_first(notes: &mut Notes, word: &str) {
-    if is_one_of(word, &VERSION) {
+    if VERSION.contains(&word) {
         notes.say_words(
             "the files that it reads and writes are those of docs/COMMAND_LINE.md; it has no version number",
         );
         return;
     }
-    if !is_one_of(word, &HELP) {
+    if !HELP.contains(&word) {
         notes.say(&[Piece::Name(word.as_bytes()), Piece::Text(" is no command")]);
     }
     say_all(notes);
-}
-
-fn is_one_of(word: &str, list: &[&str]) -> bool {
-    list.iter().any(|other| *other == word)
 }
 
 /// A line for each command.
@@ -257,7 +253,7 @@ fn say_usage(notes: &mut Notes, before: &str, command: &Command) {
 /// What is wrong with the words behind that of a command.
 fn explain_operands(notes: &mut Notes, command: &Command, words: &[String]) {
     let asks = match words.get(1) {
-        Some(word) => is_one_of(word.as_str(), &HELP),
+        Some(word) => HELP.contains(&word.as_str()),
         None => false,
     };
     if !asks {
@@ -314,7 +310,7 @@ fn fault_of_name(word: &str) -> Option<&'static str> {
 }
 
 /// A word, and what is wrong with it.
-pub(crate) fn say_word(notes: &mut Notes, place: usize, word: &str, reason: &str) {
+fn say_word(notes: &mut Notes, place: usize, word: &str, reason: &str) {
     begin_word(notes, place, word);
     notes.end(reason);
 }

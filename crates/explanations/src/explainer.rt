@@ -1,8 +1,7 @@
 use crate::explaining::explain_seen;
-use crate::files::explain_unwritten;
 use command_language::CommandFault;
 use command_line::{InputTexts, Observer, PreparedResult};
-use explanation_texts::{Command, Notes, command_of, explain_words};
+use explanation_texts::{Command, Notes, command_of, explain_unwritten, explain_words};
 use shelf_io::FailedWrite;
 use std::alloc::Global;
 
@@ -18,6 +17,8 @@ const UNWRITTEN: u8 = 3;
 pub struct Explainer<'a> {
     alloc: Global,
     words: &'a [String],
+    /// The command of the first word, if it is one.
+    command: Option<&'static Command>,
     /// What is to be said of what was shown.
     notes: Notes,
     /// The status that the command has where its result is written.
@@ -30,6 +31,10 @@ impl<'a> Explainer<'a> {
         Explainer {
             alloc,
             words,
+            command: match words.first() {
+                Some(word) => command_of(word.as_str()),
+                None => None,
+            },
             notes: Notes::new(alloc),
             status: NO_COMMAND,
         }
@@ -39,7 +44,7 @@ impl<'a> Explainer<'a> {
     /// all is as one expects, or where no memory was left.
     pub fn into_text(self, status: u8, failed: Option<&FailedWrite>) -> Vec<u8> {
         let mut notes = Notes::new(self.alloc);
-        match command_of_words(self.words) {
+        match self.command {
             Some(_) if status != NO_COMMAND && status == self.status => {
                 return self.notes.into_text();
             }
@@ -63,7 +68,7 @@ impl Observer for Explainer<'_> {
             Ok(_) => 0,
             Err(fault) => fault.status(),
         };
-        let Some(command) = command_of_words(self.words) else {
+        let Some(command) = self.command else {
             return;
         };
         let mut notes = Notes::new(self.alloc);
@@ -71,9 +76,4 @@ impl Observer for Explainer<'_> {
             self.notes = notes;
         }
     }
-}
-
-/// The command of the first word, if there is one.
-fn command_of_words(words: &[String]) -> Option<&'static Command> {
-    command_of(words.first()?.as_str())
 }

@@ -1,56 +1,12 @@
 use command_language::CommandFault;
-use command_line::{InputTexts, MeasuredEnd, PreparedResult};
+use command_line::{InputTexts, PreparedResult};
 use explanation_texts::Command;
+use program_explanations::{Inputs, RunEnd};
 use std::alloc::Global;
-use unchecked_file::{RawSegment, UncheckedFile};
+use unchecked_file::UncheckedFile;
 
 /// What is printed where a result does what its program does, and the program goes on.
 const SAME_AND_RUNNING: &[u8] = b"same\nrunning\n";
-
-/// What a command read, and what came of it.
-#[derive(Clone, Copy)]
-pub(crate) struct Inputs<'a> {
-    pub(crate) alloc: Global,
-    pub(crate) file: &'a [u8],
-    /// The text of the board, where the command has one.
-    pub(crate) board: Option<&'a [u8]>,
-    /// Whether the command analyses the file for the board.
-    pub(crate) analyses: bool,
-    /// The input of the program, where the command measures it on one.
-    pub(crate) input: Option<&'a [u8]>,
-    /// The certificate of a choice, where the command makes or checks it for one run.
-    pub(crate) certificate: Option<&'a [u8]>,
-    /// The text that lists the inputs, where the command has one.
-    pub(crate) mix: Option<&'a [u8]>,
-    /// The inputs that it lists.
-    pub(crate) listed: &'a [Vec<u8>],
-    /// Whether something of the file moved, where it was relinked.
-    pub(crate) moved: Option<bool>,
-    /// The segment that was added, where something moved.
-    pub(crate) added: Option<RawSegment>,
-    /// A further ELF file that the command read.
-    pub(crate) beside: Option<&'a [u8]>,
-    /// Whether the command tells where the program's run is not paired.
-    pub(crate) tells_pairing: bool,
-    /// Whether it compared a result with the program, and the program went on.
-    pub(crate) goes_on: bool,
-    /// The status that the command has where its result is written.
-    pub(crate) status: u8,
-    /// How the run ended by which the command measured the program.
-    pub(crate) end: Option<MeasuredEnd>,
-}
-
-impl<'a> Inputs<'a> {
-    /// The file, as it stands.
-    pub(crate) fn unchecked(&self) -> UncheckedFile<'a> {
-        UncheckedFile { bytes: self.file }
-    }
-
-    /// The text of the board; empty where the command has none.
-    pub(crate) fn board_text(&self) -> &'a [u8] {
-        self.board.unwrap_or_default()
-    }
-}
 
 /// What a command read, and what came of it; `None` where it reads no ELF file.
 pub(crate) fn inputs_of<'a>(
@@ -60,38 +16,42 @@ pub(crate) fn inputs_of<'a>(
     made: Result<&'a PreparedResult<'_>, &CommandFault>,
 ) -> Option<Inputs<'a>> {
     let file = text_of(texts, command.file)?;
-    let (status, end) = match made {
-        Ok(prepared) => (0, prepared.measured),
-        Err(fault) => (fault.status(), None),
+    let (status, end, goes_on) = match made {
+        Ok(it) => (0, end_of(it), it.text.as_slice() == SAME_AND_RUNNING),
+        Err(fault) => (fault.status(), None, false),
     };
-    let relinked = written_at(command, made, command.result);
-    let moved = relinked.map(|bytes| bytes != file);
-    let report: &'a [u8] = match made {
-        Ok(prepared) => prepared.text.as_slice(),
-        Err(_) => &[],
+    let (moved, added) = match written_at(command, made, command.result) {
+        Some(bytes) if bytes != file => (Some(true), UncheckedFile { bytes }.last_segment()),
+        Some(_) => (Some(false), None),
+        None => (None, None),
     };
+    let read = text_of(texts, command.certificate);
     Some(Inputs {
         alloc,
         file,
         board: text_of(texts, command.board),
         analyses: command.analyses,
         input: text_of(texts, command.input),
-        certificate: written_at(command, made, command.certificate).or(text_of(
-            texts,
-            command.certificate,
-        )),
+        certificate: written_at(command, made, command.certificate).or(read),
         mix: text_of(texts, command.mix),
         listed: texts.listed,
         moved,
-        added: match (relinked, moved) {
-            (Some(bytes), Some(true)) => UncheckedFile { bytes }.last_segment(),
-            _ => None,
-        },
+        added,
         beside: text_of(texts, command.beside),
         tells_pairing: command.tells_pairing,
-        goes_on: report == SAME_AND_RUNNING,
+        goes_on,
         status,
         end,
+    })
+}
+
+/// How the run ended that a command measured, if it did.
+fn end_of(prepared: &PreparedResult<'_>) -> Option<RunEnd> {
+    let end = prepared.measured?;
+    Some(RunEnd {
+        steps: end.steps,
+        outcome: end.outcome,
+        at: end.at,
     })
 }
 

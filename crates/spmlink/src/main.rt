@@ -3,14 +3,11 @@
 //! writes and checks Intel HEX.
 #![tactic(auto)]
 
-mod terminal;
-
-use explanations::{Explainer, run_command};
+use explanations::{Explainer, Terminal, run_command};
 use shelf_io::{DirShelf, OutSink, Sink, words};
 use std::alloc::AllocError;
 use std::io::IsTerminal;
 use std::process::ExitCode;
-use terminal::Terminal;
 
 fn main(rt: HostRuntime) -> ExitCode {
     let host: Result<HostRuntime, AllocError> = rt.clone();

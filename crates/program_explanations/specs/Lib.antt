@@ -1,0 +1,2 @@
+pub use Rattle.relink_core.specs.Choices
+pub mod Analysed
