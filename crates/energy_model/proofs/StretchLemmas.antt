@@ -1,5 +1,5 @@
 -- Sixteen blocks that are counted together, and the parts of which the sums over a piece are made.
-use Rattle.std.proofs.Common.{◌≡◌, ◌∙◌, ◌⊎◌, inl, inr, ℕ, zero, suc, ◌+◌, ◌-◌, ◌*◌, ◌<◌, ◌≤◌, ◌==◌, Bool, true, false, not, ◌&&◌, ◌||◌, if◌then◌else◌, List, [], ◌∷◌, ◌++◌, length, slice_index_or, Option, Some, None, refl, sym, ap, subst, arith}
+use Rattle.std.proofs.Common.{◌≡◌, ◌∙◌, ◌⊎◌, inl, inr, ℕ, zero, suc, ◌+◌, ◌-◌, ◌*◌, ◌/◌, ◌<◌, ◌≤◌, ◌==◌, Bool, true, false, not, ◌&&◌, ◌||◌, if◌then◌else◌, List, [], ◌∷◌, ◌++◌, length, slice_index_or, Option, Some, None, refl, sym, ap, subst, arith}
 use Rattle.std.specs.List.{All, AllPairs}
 use Rattle.std.specs.List.Sorted.{IsStrictlyIncreasing}
 use Rattle.std.proofs.Math.ListN.{get_or-append}
@@ -199,14 +199,18 @@ stretch_part c g q range b stretch counts below low is stays =
       pending = part_of range (pending c q) (pending c q) b 16 stretch.sums.pending low high (λ k from to. refl) is.sums.pending;
     }
 
-pub skip_part : (c : Code) (g : Graph) (q : Profile) (counts : BlockCounts) (range : BlockRange) (b : ℕ) (stretch : Stretch) → CountsCode c g q → AreBlockCounts c g q counts → IsRange c range → range.first ≤ b → StaysIn range b (slice_index_or counts.stretches.items b no_stretch).reach → stretch ≡ slice_index_or counts.stretches.items b stretch → ArePartSums c g q range b (b + 16) stretch.sums
+pub skip_part : (c : Code) (g : Graph) (q : Profile) (counts : BlockCounts) (range : BlockRange) (b : ℕ) (stretch : Stretch) → CountsCode c g q → AreBlockCounts c g q counts → IsRange c range → range.first ≤ b → StaysIn range b (slice_index_or counts.stretches.items (b / 16) no_stretch).reach → stretch ≡ slice_index_or counts.stretches.items (b / 16) stretch → ArePartSums c g q range b (b + 16) stretch.sums
 skip_part c g q counts range b stretch code blocks is low stays here =
     let high = stays.size in
+    let even = stays.even in
     let size = blocks.stretches.size in
     let inside = is.below in
-    let same = get_or_default counts.stretches.items b no_stretch stretch (omega (arith, high, size, inside)) ∙ sym here in
+    let below : b / 16 < length c.blocks.items / 16 = omega (arith, even, high, inside) in
+    let begins : b / 16 * 16 ≡ b = omega (arith, even) in
+    let same = get_or_default counts.stretches.items (b / 16) no_stretch stretch (omega (arith, below, size)) ∙ sym here in
+    let at = subst (λ (s : Stretch). IsStretch c g q (b / 16 * 16) s) (sym here) (blocks.stretches.each (b / 16) stretch below) in
     stretch_part c g q range b stretch code inside low
-    (subst (λ (s : Stretch). IsStretch c g q b s) (sym here) (blocks.stretches.each b stretch (omega (arith, high, inside))))
+    (subst (λ (n : ℕ). IsStretch c g q n stretch) begins at)
     (subst (λ (s : Stretch). StaysIn range b s.reach) same stays)
 
 -- one block
@@ -425,7 +429,7 @@ whole_few c g q b k old more counts below before here =
 
 -- ---- the list of stretches
 
-pub one_stretch : (c : Code) (g : Graph) (q : Profile) (b : ℕ) (old new : List Stretch) (stretch : Stretch) → new ≡ old ++ stretch ∷ [] → AreStretches c g q b old → IsStretch c g q b stretch → AreStretches c g q (b + 1) new
+pub one_stretch : (c : Code) (g : Graph) (q : Profile) (b : ℕ) (old new : List Stretch) (stretch : Stretch) → new ≡ old ++ stretch ∷ [] → AreStretches c g q b old → IsStretch c g q (b * 16) stretch → AreStretches c g q (b + 1) new
 one_stretch c g q b old new stretch grown before here =
     let size = before.size in
     let count = ap (λ (xs : List Stretch). length xs) grown ∙ length-append old (stretch ∷ []) in
@@ -434,10 +438,10 @@ one_stretch c g q b old new stretch grown before here =
       each = λ k d below. elim (cases_lt k b) [
         | inl less ↦
             let at = ap (λ (xs : List Stretch). slice_index_or xs k d) grown ∙ get_or-append old (stretch ∷ []) d k (omega (arith, less, size)) in
-            subst (λ (s : Stretch). IsStretch c g q k s) (sym at) (before.each k d less)
+            subst (λ (s : Stretch). IsStretch c g q (k * 16) s) (sym at) (before.each k d less)
         | inr more ↦
             let same : b ≡ k = omega (arith, below, more) in
             let at = ap (λ (xs : List Stretch). slice_index_or xs k d) grown ∙ get_or_push old stretch d k (omega (arith, size, same)) in
-            subst (λ (s : Stretch). IsStretch c g q k s) (sym at) (subst (λ (n : ℕ). IsStretch c g q n stretch) same here)
+            subst (λ (s : Stretch). IsStretch c g q (k * 16) s) (sym at) (subst (λ (n : ℕ). IsStretch c g q (n * 16) stretch) same here)
       ];
     }

@@ -1,5 +1,5 @@
 -- What is asked of the tables of a profile, so that pieces can be counted, and what is counted of blocks and of pieces.
-use Rattle.std.specs.Prelude.{◌≡◌, ℕ, suc, ◌+◌, ◌-◌, ◌*◌, ◌<◌, ◌≤◌, ◌==◌, Bool, true, false, List, length, slice_index_or, if◌then◌else◌}
+use Rattle.std.specs.Prelude.{◌≡◌, ℕ, suc, ◌+◌, ◌*◌, ◌/◌, ◌<◌, ◌≤◌, ◌==◌, Bool, true, false, List, length, slice_index_or, if◌then◌else◌}
 use Rattle.std.specs.List.{All, AllPairs}
 use Rattle.std.specs.List.Sorted.{IsStrictlyIncreasing}
 use Rattle.object_graph.specs.Lookups.{IsSomeGraph}
@@ -77,7 +77,7 @@ pub record AreListedCounts (c : Code) (g : Graph) (q : Profile) (counts : BlockC
 
 pub record AreBlockCounts (c : Code) (g : Graph) (q : Profile) (counts : BlockCounts) : Type 0 where
   pub listed : AreListedCounts c g q counts
-  pub stretches : AreStretches c g q (length c.blocks.items - 15) counts.stretches.items
+  pub stretches : AreStretches c g q (length c.blocks.items / 16) counts.stretches.items
 
 pub record IsPieceCount (c : Code) (g : Graph) (q : Profile) (range : BlockRange) (counts : PieceCounts) : Type 0 where
   pub home : counts.home ≡ home_words c g q range

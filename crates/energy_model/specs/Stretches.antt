@@ -1,5 +1,5 @@
 -- Sixteen blocks that follow one another, counted together for the pieces that no edge from them leaves.
-use Rattle.std.specs.Prelude.{◌≡◌, ℕ, ◌+◌, ◌<◌, ◌≤◌, ◌==◌, Bool, true, false, ◌||◌, List, length, slice_index_or, if◌then◌else◌}
+use Rattle.std.specs.Prelude.{◌≡◌, ℕ, ◌+◌, ◌*◌, ◌%◌, ◌<◌, ◌≤◌, ◌==◌, Bool, true, false, ◌||◌, List, length, slice_index_or, if◌then◌else◌}
 use Rattle.list_checks.specs.Sorted.{sum_below}
 use Rattle.object_graph.specs.declared.parts.Graph.{Graph}
 use Rattle.code_blocks.specs.Numbers.{start_at}
@@ -90,10 +90,10 @@ no_stretch =
       reach = record { first = 0; last = 0; plain = false };
     }
 
--- those from each of the first `n` blocks
+-- the first `n` stretches
 pub record AreStretches (c : Code) (g : Graph) (q : Profile) (n : ℕ) (stretches : List Stretch) : Type 0 where
   pub size : length stretches ≡ n
-  pub each : (b : ℕ) (d : Stretch) → b < n → IsStretch c g q b (slice_index_or stretches b d)
+  pub each : (k : ℕ) (d : Stretch) → k < n → IsStretch c g q (k * 16) (slice_index_or stretches k d)
 
 -- ---- parts of a piece
 
@@ -107,6 +107,7 @@ pub record ArePartSums (c : Code) (g : Graph) (q : Profile) (range : BlockRange)
 
 -- no edge from the sixteen blocks from `b` leaves the range
 pub record StaysIn (range : BlockRange) (b : ℕ) (reach : Reach) : Type 0 where
+  pub even : b % 16 ≡ 0
   pub size : b + 16 ≤ range.last + 1
   pub plain : reach.plain ≡ true
   pub first_in : range.first ≤ reach.first

@@ -9,7 +9,7 @@ pub struct BlockCounts {
     pub pending: Vec<u128>,
     /// Where the edges from each block begin in the profile; behind these, how many there are.
     pub edges: Vec<usize>,
-    /// What the sixteen blocks from each on ran, where there are so many.
+    /// What each sixteen blocks ran, from the first block on, as far as there are so many.
     pub stretches: Vec<Stretch>,
 }
 

@@ -1,4 +1,4 @@
-ghost use Rattle.std.specs.Prelude.{◌≡◌, ◌+◌, ◌-◌, ◌*◌, ◌<◌, ◌≤◌, true, length, slice_index_or, IsTrue};
+ghost use Rattle.std.specs.Prelude.{◌≡◌, ◌+◌, ◌-◌, ◌*◌, ◌/◌, ◌<◌, ◌≤◌, true, length, slice_index_or, IsTrue};
 ghost use Rattle.std.specs.List.{AllPairs};
 ghost use Rattle.std.specs.List.Sorted.{IsStrictlyIncreasing};
 ghost use Rattle.profile_runner.specs.{Counts.{precedes}, declared.counts.Profile.{Profile}};
@@ -299,14 +299,17 @@ fn is_closed(range: &BlockRange, reach: &Reach) -> bool
 
 /// Whether no edge from the sixteen blocks from `b` on leaves a range.
 fn may_skip(counts: &BlockCounts, range: &BlockRange, b: usize) -> bool
-    requires inside { b ≤ range.now.last }
-    requires below { range.now.last < length counts.now.stretches.items + 15 }
-    ensures { IsTrue result → StaysIn range.now b (slice_index_or counts.now.stretches.items b no_stretch).reach }
+    requires { b ≤ range.now.last }
+    ensures { IsTrue result → StaysIn range.now b (slice_index_or counts.now.stretches.items (b / 16) no_stretch).reach }
 {
-    if b + STRETCH > range.last as usize + 1 {
+    let left = range.last as usize + 1 - b;
+    if b % STRETCH > 0 || left < STRETCH {
         return false;
     }
-    is_closed(range, &counts.stretches[b].reach)
+    match counts.stretches.get(b / STRETCH) {
+        Some(stretch) => is_closed(range, &stretch.reach),
+        None => false,
+    }
 }
 
 /// What the next blocks of a range ran, from `b` on.
@@ -328,7 +331,7 @@ fn part_from(
 {
     if may_skip(counts, range, b) {
         return PiecePart {
-            sums: counts.stretches[b].sums,
+            sums: counts.stretches[b / STRETCH].sums,
             end: b + STRETCH,
         };
     }

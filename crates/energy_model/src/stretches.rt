@@ -1,5 +1,5 @@
 // What sixteen blocks that follow one another ran, so that pieces need not be counted block by block.
-ghost use Rattle.std.specs.Prelude.{◌≡◌, ◌+◌, ◌-◌, ◌*◌, ◌<◌, ◌≤◌, true, length, IfOk};
+ghost use Rattle.std.specs.Prelude.{◌≡◌, ◌+◌, ◌/◌, ◌*◌, ◌<◌, ◌≤◌, true, length, IfOk};
 ghost use Rattle.std.specs.List.{AllPairs};
 ghost use Rattle.profile_runner.specs.Counts.{precedes};
 ghost use Rattle.code_blocks.specs.Numbers.{start_at};
@@ -142,7 +142,7 @@ fn stretch_from(code: &Code, profile: &Profile, counts: &BlockCounts, b: usize) 
     }
 }
 
-/// The stretches from all blocks behind which there are so many.
+/// The stretches of all blocks, but for some at the end, which are too few.
 pub(crate) fn stretches(
     alloc: Global,
     code: &Code,
@@ -150,11 +150,11 @@ pub(crate) fn stretches(
     counts: &BlockCounts,
 ) -> Result<Vec<Stretch>, AllocError>
     requires code { (g : Graph) × (CountsCode code.now g profile.now × AreListedCounts code.now g profile.now counts.now) }
-    ensures { IfOk result (λ made. (g : Graph) → CountsCode code.now g profile.now → AreListedCounts code.now g profile.now counts.now → AreStretches code.now g profile.now (length code.now.blocks.items - 15) made.items) }
+    ensures { IfOk result (λ made. (g : Graph) → CountsCode code.now g profile.now → AreListedCounts code.now g profile.now counts.now → AreStretches code.now g profile.now (length code.now.blocks.items / 16) made.items) }
 {
     let mut made = Vec::new(alloc);
-    for b in 0..code.blocks.len().saturating_sub(STRETCH - 1) {
-        made.push(stretch_from(code, profile, counts, b))?;
+    for k in 0..code.blocks.len() / STRETCH {
+        made.push(stretch_from(code, profile, counts, k * STRETCH))?;
     }
     Ok(made)
 }

@@ -6,10 +6,11 @@ use Rattle.energy_model.proofs.pieces.part_from.Goals as goal
 pub index-requires : goal.index-requires
 index-requires c =
     let size = (c.may_skip.ensures c.if-may_skip.true).size in
+    let even = (c.may_skip.ensures c.if-may_skip.true).even in
     let below = c.requires.range.is_range.below in
     let count = c.requires.blocks.stretches.size in
     let length = c.args.counts.now.stretches.ok.0 in
-    omega (arith, size, below, count, length)
+    omega (arith, size, even, below, count, length)
 
 pub returns-then-may_skip-clause-sums : goal.returns-then-may_skip-clause-sums
 returns-then-may_skip-clause-sums c =
