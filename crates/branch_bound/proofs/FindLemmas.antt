@@ -2,6 +2,7 @@
 use Rattle.std.proofs.Common.{◌≡◌, ◌∙◌, ℕ, suc, ◌+◌, ◌<◌, ◌≤◌, Bool, true, false, List, [], ◌∷◌, length, take, slice_set, Option, Some, None, sym, ap, subst, refl, arith}
 use Rattle.std.specs.List.{count_by}
 use Rattle.placement_programme.specs.Plain.{PlainSide}
+use Rattle.placement_programme.specs.Views.{plain_side}
 use Rattle.certificate_checker.specs.Nodes.{PlainTree, branch}
 use Rattle.certificate_checker.specs.NodeLists.{PlainNode, nodes_of}
 use Rattle.certificate_checker.specs.Fixings.{fixing_of, is_free}
@@ -20,6 +21,7 @@ use Rattle.branch_bound.specs.declared.open_branches.OpenBranch.{OpenBranch}
 use Rattle.branch_bound.specs.declared.open_branches.OpenBranch.TheVariants.{ToOne}
 use Rattle.branch_bound.specs.declared.ranking.Ranked.{Ranked}
 use Rattle.branch_bound.specs.declared.running.Running.{Running}
+use Rattle.branch_bound.specs.declared.searching.Task.{Task}
 use Rattle.branch_bound.specs.declared.stands.Next.{Next}
 use Rattle.branch_bound.specs.declared.stands.Stand.{Stand}
 use Rattle.branch_bound.specs.declared.stands.Stand.TheVariants.{Before, Behind, Ended}
@@ -177,6 +179,18 @@ module _ (on : Bool) (s : PlainSide) (ranking : List Ranked) where
   ended_without root start trail marks run Behind ended other stands = absurd (let is = ended in cc)
   ended_without root start trail marks run (Ended true) ended other stands = absurd (other refl)
   ended_without root start trail marks run (Ended false) ended other stands = stands
+
+-- what the search of a task opens and finds
+abbrev pub OpenedIn : Task → ℕ → List Fixing → Running → Running → Type 0
+OpenedIn task = IsOpened task.on (plain_side task.side.now) task.ranking.now
+
+abbrev pub FoundIn : Task → List Fixing → Running → Running → Option PlainTree → Type 0
+FoundIn task = Finds task.on (plain_side task.side.now)
+
+-- a search that stands behind a node
+pub stands_behind : (task : Task) (root : List Fixing) (start : Running) (trail : Trail) (marks : List Fixing) (run : Running) (stand : Stand) → stand ≡ Behind → Stands task.on (plain_side task.side.now) task.ranking.now root start trail marks run stand → IsBehind (number_at task.ranking.now) (OpenedIn task) (FoundIn task) root start (steps_on trail) (nodes_on trail) marks run
+stands_behind task root start trail marks run stand is stands =
+    subst (λ (st : Stand). Stands task.on (plain_side task.side.now) task.ranking.now root start trail marks run st) is stands
 
 -- a step forward uses up what is ahead
 pub ended_ahead : (run : Running) (old new : Trail) (stand : Stand) → stand ≡ Behind → steps_on new ≡ [] → ahead run new (Ended true) < ahead run old stand

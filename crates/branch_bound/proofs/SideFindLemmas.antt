@@ -2,6 +2,7 @@
 use Rattle.std.proofs.Common.{◌≡◌, ℕ, suc, ◌+◌, ◌<◌, ◌≤◌, Bool, true, false, List, [], ◌∷◌, length, slice_set, Option, Some, None, is_some, option_map, refl, sym, ap, subst, arith}
 use Rattle.std.specs.List.{count_by}
 use Rattle.placement_programme.specs.Plain.{PlainSide, PlainProgramme}
+use Rattle.placement_programme.specs.Views.{plain_side, plain_programme}
 use Rattle.certificate_checker.specs.Nodes.{PlainTree, branch}
 use Rattle.certificate_checker.specs.Fixings.{fixing_of, is_free}
 use Rattle.certificate_checker.specs.Rules.{BranchHolds}
@@ -15,6 +16,7 @@ use Rattle.branch_bound.specs.Visits.{ShownWithin}
 use Rattle.branch_bound.specs.declared.guiding.NodeBound.{NodeBound}
 use Rattle.branch_bound.specs.declared.open_branches.OpenBranch.{OpenBranch}
 use Rattle.branch_bound.specs.declared.side_incumbents.Incumbent.{Incumbent}
+use Rattle.branch_bound.specs.declared.side_searching.Task.{Task}
 use Rattle.branch_bound.specs.declared.side_stands.Stand.{Stand}
 use Rattle.branch_bound.specs.declared.side_stands.Stand.TheVariants.{Before, Behind, Ended}
 use Rattle.branch_bound.specs.declared.trails.Trail.{Trail}
@@ -39,6 +41,18 @@ some_same f (Some x) = refl
 -- a guide and the best choice so far
 abbrev pub beside : {G : Type 0} → G → Incumbent → G × Incumbent
 beside guide best = (guide, best)
+
+-- what the search of a task opens and finds
+abbrev pub OpenedIn : {G : Type 0} → (G → PlainSide → List Fixing → ℕ → NodeBound → G → Type 0) → Task → ℕ → List Fixing → G × Incumbent → G × Incumbent → Type 0
+OpenedIn answers task = IsOpenedBy answers (plain_programme task.programme.now) task.on (plain_side task.side.now)
+
+abbrev pub FoundIn : {G : Type 0} → (G → PlainSide → List Fixing → ℕ → NodeBound → G → Type 0) → Task → List Fixing → G × Incumbent → G × Incumbent → Option PlainTree → Type 0
+FoundIn answers task = FindsBy answers (plain_programme task.programme.now) task.on (plain_side task.side.now)
+
+-- a search that stands behind a node
+pub stands_behind : {G : Type 0} (answers : G → PlainSide → List Fixing → ℕ → NodeBound → G → Type 0) (task : Task) (root : List Fixing) (start : G × Incumbent) (trail : Trail) (marks : List Fixing) (now : G × Incumbent) (stand : Stand) → stand ≡ Behind → SideStands answers (plain_programme task.programme.now) task.on (plain_side task.side.now) root start trail marks now stand → IsBehind number_itself (OpenedIn answers task) (FoundIn answers task) root start (steps_on trail) (nodes_on trail) marks now
+stands_behind answers task root start trail marks now stand is stands =
+    subst (λ (st : Stand). SideStands answers (plain_programme task.programme.now) task.on (plain_side task.side.now) root start trail marks now st) is stands
 
 module _ {G : Type 0} (answers : G → PlainSide → List Fixing → ℕ → NodeBound → G → Type 0) (p : PlainProgramme) (on : Bool) (s : PlainSide) where
   -- no more nodes may be visited

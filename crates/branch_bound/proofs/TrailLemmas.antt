@@ -55,6 +55,12 @@ module _ {R : Type 0} (number : ℕ → ℕ) (Opened : ℕ → List Fixing → R
       subst (λ os. Way number Opened Finds root start os nodes root start) (sym none)
       (subst (λ ts. Way number Opened Finds root start [] ts root start) (sym nothing) at_root)
 
+  -- the same steps and nodes, written so
+  pub behind_same : (steps now_steps : List OpenBranch) (nodes now_nodes : List PlainNode) (marks : List Fixing) (new : R) → steps ≡ now_steps → now_nodes ≡ nodes → IsBehind number Opened Finds root start steps nodes marks new → IsBehind number Opened Finds root start now_steps now_nodes marks new
+  behind_same steps now_steps nodes now_nodes marks new same_steps same_nodes behind =
+      subst (λ ts. IsBehind number Opened Finds root start now_steps ts marks new) (sym same_nodes)
+      (subst (λ os. IsBehind number Opened Finds root start os nodes marks new) same_steps behind)
+
   pub whole_found : (nodes : List PlainNode) (marks : List Fixing) (new : R) → IsBehind number Opened Finds root start [] nodes marks new → IsWhole Finds root start nodes marks new
   whole_found nodes marks new b = at b.others marks b.old b.way b.split b.finds
     where

@@ -1,28 +1,22 @@
-use Rattle.std.proofs.Common.{◌≡◌, ◌+◌, ◌<◌, false, sym, subst}
-use Rattle.placement_programme.specs.Views.{plain_side}
+use Rattle.std.proofs.Common.{◌≡◌, ◌+◌, ◌<◌, [], false}
 use Rattle.branch_bound.specs.Ranking.{number_at}
-use Rattle.branch_bound.specs.Searching.{IsOpened, Finds}
-use Rattle.branch_bound.specs.Trails.{nodes_on, IsBehind, IsWhole}
-use Rattle.branch_bound.specs.Stands.{Stands, ahead, is_ended}
+use Rattle.branch_bound.specs.Trails.{steps_on, nodes_on}
+use Rattle.branch_bound.specs.Stands.{ahead, is_ended}
 use Rattle.branch_bound.specs.declared.running.Running.{Running}
 use Rattle.branch_bound.specs.declared.stands.Stand.{Stand}
 use Rattle.branch_bound.specs.declared.stands.Stand.TheVariants.{Behind}
-use Rattle.branch_bound.proofs.FindLemmas.{ended_ahead, less_ahead}
-use Rattle.branch_bound.proofs.TrailLemmas.{whole_found, if_ok_more}
+use Rattle.branch_bound.proofs.FindLemmas.{OpenedIn, FoundIn, stands_behind, ended_ahead, less_ahead}
+use Rattle.branch_bound.proofs.TrailLemmas.{behind_same, whole_found, if_ok_more}
 use Rattle.branch_bound.proofs.searching.advance.Goals as goal
 
 pub returns-in-None-clause-stands : goal.returns-in-None-clause-stands
 returns-in-None-clause-stands g c root start stands =
-    let s = plain_side c.args.task.now.side.now in
-    let on = c.args.task.now.on in
-    let ranking = c.args.task.now.ranking.now in
-    let trail = c.args.trail.now in
+    let task = c.args.task.now in
+    let number = number_at task.ranking.now in
+    let later = nodes_on c.step_back.new.trail in
     let marks = c.args.node.now.marks.items in
-    let run = c.args.run.now in
-    let behind = subst (λ (st : Stand). Stands on s ranking root start trail marks run st) c.in-Behind.is stands in
-    let there = subst (λ steps. IsBehind (number_at ranking) (IsOpened on s ranking) (Finds on s) root start steps (nodes_on trail) marks run) c.in-None.ensures.steps.0 behind in
-    subst (λ trees. IsWhole (Finds on s) root start trees marks run) (sym c.in-None.ensures.closed)
-    (whole_found (number_at ranking) (IsOpened on s ranking) (Finds on s) root start (nodes_on trail) marks run there)
+    let behind = behind_same number (OpenedIn task) (FoundIn task) root start (steps_on c.args.trail.now) [] (nodes_on c.args.trail.now) later marks c.args.run.now c.in-None.ensures.steps.0 c.in-None.ensures.closed (stands_behind task root start c.args.trail.now marks c.args.run.now c.args.stand c.in-Behind.is stands) in
+    whole_found number (OpenedIn task) (FoundIn task) root start later marks c.args.run.now behind
 
 pub returns-in-None-clause-ahead : goal.returns-in-None-clause-ahead
 returns-in-None-clause-ahead g c =

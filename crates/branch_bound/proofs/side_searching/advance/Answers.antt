@@ -1,27 +1,21 @@
-use Rattle.std.proofs.Common.{◌≡◌, ◌+◌, ◌<◌, ◌∷◌, false, sym, subst}
-use Rattle.placement_programme.specs.Views.{plain_side, plain_programme}
-use Rattle.branch_bound.specs.SideStands.{number_itself, IsOpenedBy, FindsBy, SideStands, side_ahead, is_side_ended}
-use Rattle.branch_bound.specs.Trails.{steps_on, nodes_on, IsBehind, IsWhole}
+use Rattle.std.proofs.Common.{◌≡◌, ◌+◌, ◌<◌, [], ◌∷◌, false}
+use Rattle.branch_bound.specs.SideStands.{number_itself, side_ahead, is_side_ended}
+use Rattle.branch_bound.specs.Trails.{steps_on, nodes_on}
 use Rattle.branch_bound.specs.declared.side_incumbents.Incumbent.{Incumbent}
 use Rattle.branch_bound.specs.declared.side_stands.Stand.{Stand}
 use Rattle.branch_bound.specs.declared.side_stands.Stand.TheVariants.{Behind}
-use Rattle.branch_bound.proofs.SideFindLemmas.{beside, ended_side_ahead, less_side_ahead}
-use Rattle.branch_bound.proofs.TrailLemmas.{whole_found, if_ok_more}
+use Rattle.branch_bound.proofs.SideFindLemmas.{OpenedIn, FoundIn, stands_behind, beside, ended_side_ahead, less_side_ahead}
+use Rattle.branch_bound.proofs.TrailLemmas.{behind_same, whole_found, if_ok_more}
 use Rattle.branch_bound.proofs.side_searching.advance.Goals as goal
 
 pub returns-in-None-clause-stands : goal.returns-in-None-clause-stands
 returns-in-None-clause-stands g c root start stands =
     let answers = g.G.Guide.answers in
-    let p = plain_programme c.args.task.now.programme.now in
-    let s = plain_side c.args.task.now.side.now in
-    let on = c.args.task.now.on in
-    let trail = c.args.trail.now in
-    let marks = c.args.marks.now in
+    let task = c.args.task.now in
+    let nodes = nodes_on c.args.trail.now in
     let now = beside c.args.guide.now c.args.best.now in
-    let behind = subst (λ (st : Stand). SideStands answers p on s root start trail marks now st) c.in-Behind.is stands in
-    let there = subst (λ steps. IsBehind number_itself (IsOpenedBy answers p on s) (FindsBy answers p on s) root start steps (nodes_on trail) marks now) c.in-None.ensures.steps.0 behind in
-    subst (λ trees. IsWhole (FindsBy answers p on s) root start trees marks now) (sym c.in-None.ensures.closed)
-    (whole_found number_itself (IsOpenedBy answers p on s) (FindsBy answers p on s) root start (nodes_on trail) marks now there)
+    let behind = behind_same number_itself (OpenedIn answers task) (FoundIn answers task) root start (steps_on c.args.trail.now) [] nodes (nodes_on c.step_back.new.trail) c.args.marks.now now c.in-None.ensures.steps.0 c.in-None.ensures.closed (stands_behind answers task root start c.args.trail.now c.args.marks.now now c.args.stand c.in-Behind.is stands) in
+    whole_found number_itself (OpenedIn answers task) (FoundIn answers task) root start (nodes_on c.step_back.new.trail) c.args.marks.now now behind
 
 pub returns-in-None-clause-ahead : goal.returns-in-None-clause-ahead
 returns-in-None-clause-ahead g c =
@@ -30,18 +24,11 @@ returns-in-None-clause-ahead g c =
 pub returns-in-Some-clause-stands : goal.returns-in-Some-clause-stands
 returns-in-Some-clause-stands g c =
     let answers = g.G.Guide.answers in
-    let p = plain_programme c.args.task.now.programme.now in
-    let s = plain_side c.args.task.now.side.now in
-    let on = c.args.task.now.on in
-    let trail = c.args.trail.now in
-    let marks = c.args.marks.now in
+    let task = c.args.task.now in
     let now = beside c.args.guide.now c.args.best.now in
     let middle = c.step_back.new.trail in
     if_ok_more _ _ c.leave.result
-    (λ next leaves root start stands.
-    let behind = subst (λ (st : Stand). SideStands answers p on s root start trail marks now st) c.in-Behind.is stands in
-    let there = subst (λ steps. IsBehind number_itself (IsOpenedBy answers p on s) (FindsBy answers p on s) root start steps (nodes_on trail) marks now) c.in-Some.ensures.steps behind in
-    leaves root start now (subst (λ trees. IsBehind number_itself (IsOpenedBy answers p on s) (FindsBy answers p on s) root start (c.in-Some.last ∷ steps_on middle) trees marks now) (sym c.in-Some.ensures.closed) there))
+    (λ next leaves root start stands. leaves root start now (behind_same number_itself (OpenedIn answers task) (FoundIn answers task) root start (steps_on c.args.trail.now) (c.in-Some.last ∷ steps_on middle) (nodes_on c.args.trail.now) (nodes_on middle) c.args.marks.now now c.in-Some.ensures.steps c.in-Some.ensures.closed (stands_behind answers task root start c.args.trail.now c.args.marks.now now c.args.stand c.in-Behind.is stands)))
     c.leave.ensures.stands
 
 pub returns-in-Some-clause-ahead : goal.returns-in-Some-clause-ahead

@@ -41,33 +41,20 @@ ended_tree-requires-clause-whole g c =
 
 pub returns-clause-kept : goal.returns-clause-kept
 returns-clause-kept g c =
-    let answers = g.G.Guide.answers in
-    let p = plain_programme c.args.task.now.programme.now in
-    let s = plain_side c.args.task.now.side.now in
-    let on = c.args.task.now.on in
-    let root = c.args.marks.now in
-    let start = beside c.args.guide.now c.args.best.now in
-    c.ended_tree.ensures.kept p on s root start c.loop-guide.marks (beside c.loop-guide.guide c.loop-guide.best) c.loop-guide.invariant.stands
+    c.ended_tree.ensures.kept (plain_programme c.args.task.now.programme.now) c.args.task.now.on (plain_side c.args.task.now.side.now) c.args.marks.now (beside c.args.guide.now c.args.best.now) c.loop-guide.marks (beside c.loop-guide.guide c.loop-guide.best) c.loop-guide.invariant.stands
 
 pub returns-clause-shown : goal.returns-clause-shown
 returns-clause-shown g c =
-    let answers = g.G.Guide.answers in
-    let p = plain_programme c.args.task.now.programme.now in
     let s = plain_side c.args.task.now.side.now in
-    let on = c.args.task.now.on in
     let root = c.args.marks.now in
-    let start = beside c.args.guide.now c.args.best.now in
-    let finds = c.ended_tree.ensures.finds p on s root start c.loop-guide.marks (beside c.loop-guide.guide c.loop-guide.best) c.loop-guide.invariant.stands in
+    let finds = c.ended_tree.ensures.finds (plain_programme c.args.task.now.programme.now) c.args.task.now.on s root (beside c.args.guide.now c.args.best.now) c.loop-guide.marks (beside c.loop-guide.guide c.loop-guide.best) c.loop-guide.invariant.stands in
     let deep = c.requires.deep in
     shown_levels s c.loop-guide.best.gain root (suc (count_by is_free root)) c.args.levels (option_map plain_tree c.ended_tree.result) (omega (arith, deep)) finds.shown
 
 pub returns-clause-searches : goal.returns-clause-searches
 returns-clause-searches g c =
-    let answers = g.G.Guide.answers in
     let p = plain_programme c.args.task.now.programme.now in
     let s = plain_side c.args.task.now.side.now in
     let on = c.args.task.now.on in
-    let root = c.args.marks.now in
-    let start = beside c.args.guide.now c.args.best.now in
-    let finds = c.ended_tree.ensures.finds p on s root start c.loop-guide.marks (beside c.loop-guide.guide c.loop-guide.best) c.loop-guide.invariant.stands in
-    subst (λ b. Searches answers p on s root (stand c.args.guide.now c.args.best.now) b (stand c.loop-guide.guide c.loop-guide.best)) (some_same plain_tree c.ended_tree.result) finds.searches
+    let finds = c.ended_tree.ensures.finds p on s c.args.marks.now (beside c.args.guide.now c.args.best.now) c.loop-guide.marks (beside c.loop-guide.guide c.loop-guide.best) c.loop-guide.invariant.stands in
+    subst (λ b. Searches g.G.Guide.answers p on s c.args.marks.now (stand c.args.guide.now c.args.best.now) b (stand c.loop-guide.guide c.loop-guide.best)) (some_same plain_tree c.ended_tree.result) finds.searches
