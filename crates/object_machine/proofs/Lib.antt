@@ -17,6 +17,8 @@ pub mod RunLemmas
 pub mod SiteLemmas
 pub mod StartLemmas
 pub mod StoreLemmas
+pub mod NamedLemmas
+pub mod OpLemmas
 pub mod NumberLemmas
 pub mod NumberingLemmas
 pub mod LandingLemmas

@@ -12,6 +12,8 @@ pub mod Laws
 pub mod Start
 pub mod Paired
 pub mod Units
+pub mod InstrCode
+pub mod Ops
 pub mod Layout
 pub mod Landings
 pub mod Numbering
@@ -20,5 +22,6 @@ pub mod OfGraph
 pub mod Spots
 pub mod Footprints
 pub mod Machine
+pub mod Named
 pub mod Preparing
 pub mod Starting

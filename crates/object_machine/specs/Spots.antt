@@ -27,3 +27,9 @@ HasByte t (Nowhere why) i = Unit {0}
 -- the `n` bytes from a place are
 abbrev pub Spans : Tables → ℕ → Spot → Type 0
 Spans t n spot = (i : ℕ) → i < n → HasByte t spot i
+
+-- a place is memory
+abbrev pub IsSomewhere : Spot → Type 0
+IsSomewhere (Fixed a) = Unit {0}
+IsSomewhere (Object o d) = Unit {0}
+IsSomewhere (Nowhere why) = ⊥

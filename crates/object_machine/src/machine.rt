@@ -6,6 +6,7 @@ ghost use Rattle.object_machine.specs.{Units.{unit_in}, OfGraph.{values_prop, ce
 mod calling;
 mod loading;
 mod moving;
+mod named;
 mod performing;
 mod places;
 mod registers;
@@ -121,6 +122,7 @@ impl Source {
 
     /// Takes one step, as the tables tell it.
     #[inline(always)]
+    #[tactic(auto, using(crate::proofs::NamedLemmas::steps_by_name, crate::proofs::NamedLemmas::steps_still, crate::proofs::NamedLemmas::goes_still))]
     fn step_seen(&mut self) -> Result<Event, AllocError>
         ensures step { IfOk result (λ event. StepsFrom self.old.outcome self.old event (seen_state self.new)) }
         ensures tables { self.new.tables ≡ self.old.tables }
@@ -130,6 +132,30 @@ impl Source {
         if self.has_ended() {
             return Ok(self.event(at, None));
         }
+        let op = self.op();
+        match self.perform_named(op) {
+            Some(access) => Ok(Event {
+                at,
+                outcome: Outcome::GoesOn,
+                access,
+            }),
+            None => match self.step_other() {
+                Ok(event) => Ok(event),
+                Err(error) => Err(error),
+            },
+        }
+    }
+
+    /// Takes a step of any unit.
+    #[cold]
+    #[inline(never)]
+    fn step_other(&mut self) -> Result<Event, AllocError>
+        requires going { self.old.outcome ≡ Outcome.GoesOn }
+        ensures step { IfOk result (λ event. StepsFrom self.old.outcome self.old event (seen_state self.new)) }
+        ensures tables { self.new.tables ≡ self.old.tables }
+        ensures err { OnErr result (seen_state self.new ≡ seen_state self.old) }
+    {
+        let at = self.pc;
         let unit = self.tables.units[self.place];
         let access = self.perform(&unit)?;
         Ok(self.event(at, access))

@@ -1,10 +1,11 @@
 ghost use Rattle.std.specs.Prelude.{◌≡◌, ℕ, true, length};
 ghost use Rattle.std.specs.List.{list_any};
 ghost use Rattle.object_graph.specs.Sites.{in_range};
-ghost use Rattle.object_machine.specs.{Landings.{AreLandings}, Numbering.{HasNumbers}, Units.{AreFit, AreJoined, AreStarts}, Layout.{AreAscending, EndBelow, HasDisjointObjects, LieOff, AreAmong, is_grain}};
+ghost use Rattle.object_machine.specs.{Landings.{AreLandings}, Ops.{AreOps, AreOps-prop}, Numbering.{HasNumbers}, Units.{AreFit, AreJoined, AreStarts}, Layout.{AreAscending, EndBelow, HasDisjointObjects, LieOff, AreAmong, is_grain}};
 ghost use Rattle.std.specs.List.Sorted.{IsStrictlyIncreasing};
 
 use crate::landings::landing;
+use crate::op::Op;
 use crate::units::Prepared;
 use board_config::Range;
 use list_checks::place_of;
@@ -17,6 +18,8 @@ pub(crate) struct Tables {
     pub(crate) graph: Graph,
     /// The units of all blocks, one block behind the other.
     pub(crate) units: Vec<Prepared>,
+    /// And their names.
+    pub(crate) ops: Vec<Op>,
     /// Where the blocks begin, ascending, and the place of the first unit of each.
     pub(crate) starts: Vec<u64>,
     pub(crate) places: Vec<usize>,
@@ -37,6 +40,7 @@ pub(crate) struct Tables {
     pub(crate) ghost off: { LieOff fixed.items graph },
     pub(crate) ghost fit: { AreFit (length graph.objects.items) units.items },
     pub(crate) ghost joined: { AreJoined units.items },
+    pub(crate) ghost named: { AreOps units.items ops.items } by { AreOps-prop units.items ops.items },
     pub(crate) ghost begun: { AreStarts units.items starts.items places.items },
     pub(crate) ghost numbered: { HasNumbers starts.items units.items numbers.items },
     pub(crate) ghost ascending: { IsStrictlyIncreasing starts.items },
@@ -51,7 +55,18 @@ pub(crate) struct Tables {
 impl Tables {
     ghost use Rattle.std.specs.Prelude.{false, ◌+◌, ◌<◌, ◌≤◌, IsTrue, MatchOption};
     ghost use Rattle.code_blocks.specs.Early.{has};
-    ghost use Rattle.object_machine.specs.{Units.{IsUnitAt}, Layout.{is_in_some}};
+    ghost use Rattle.object_machine.specs.{Units.{unit_in, IsUnitAt, FitsRead}, Ops.{instr_of, NamedBy}, Layout.{is_in_some}};
+
+    /// The name of the unit at a place.
+    #[inline(always)]
+    #[tactic(auto, unfolding(crate::specs::Ops::AreOps))]
+    pub(crate) fn op_at(&self, place: usize) -> Op
+        requires { place < length self.now.units.items }
+        ensures named { NamedBy (unit_in self.now.units.items place) (instr_of result) }
+        ensures fits { FitsRead (instr_of result) }
+    {
+        self.ops[place]
+    }
 
     /// Whether fixed memory lies at an address, by binary search.
     pub(crate) fn is_fixed(&self, address: u32) -> bool

@@ -8,6 +8,7 @@ ghost use Rattle.cell_values.specs.Objects.{IsGrain};
 ghost use Rattle.object_machine.specs.{Program.{program_of}, Machine.{Agrees}, Preparing.{HasObjects}};
 
 use crate::landings::{block_landings, first_start, reached_landings};
+use crate::naming::named_units;
 use crate::numbering::block_numbers;
 use crate::preparing::{lay_blocks, objects_alone, widened};
 use crate::tables::Tables;
@@ -42,6 +43,7 @@ pub(crate) fn tables_of(
     let fixed = fixed_ranges(alloc, view, board, graph)?;
     let numbers = block_numbers(alloc, code, &block_units.units)?;
     let landings = block_landings(alloc, &block_units)?;
+    let ops = named_units(alloc, &block_units.units)?;
     let reached_landings = reached_landings(alloc, &block_units, &landings, &reached)?;
     Ok(Tables {
         graph: objects,
@@ -50,6 +52,7 @@ pub(crate) fn tables_of(
         landings,
         reached_landings,
         units: block_units.units,
+        ops,
         starts: block_units.starts,
         places: block_units.places,
         numbers,

@@ -67,7 +67,7 @@ impl Source {
 
     /// The value that a load takes from a place.
     #[inline(always)]
-    fn loaded(&self, kind: LoadKind, spot: &Spot) -> Val
+    pub(super) fn loaded(&self, kind: LoadKind, spot: &Spot) -> Val
         requires { Spans self.now.tables (load_width kind) spot.now }
         ensures value { result ≡ loaded_value kind (seen_state self.now) (where_of spot.now) }
         ensures of { IsOfGraph self.now.tables.graph result }

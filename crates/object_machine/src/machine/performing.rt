@@ -244,7 +244,7 @@ impl Source {
     /// What an operation leaves of two registers.
     #[inline(always)]
     #[tactic(auto, using(crate::proofs::NumberLemmas::numbers_operated))]
-    fn operated(&self, kind: RegKind, rs1: u8, rs2: u8) -> Val
+    pub(super) fn operated(&self, kind: RegKind, rs1: u8, rs2: u8) -> Val
         requires rs1 { rs1 < 32 }
         requires rs2 { rs2 < 32 }
         ensures value { let regs = (seen_state self.now).regs in

@@ -81,7 +81,7 @@ impl Source {
 
     /// That at a number.
     #[inline(always)]
-    fn located_number(&self, width: u32, at: u32) -> Spot
+    pub(super) fn located_number(&self, width: u32, at: u32) -> Spot
         requires { IsWidth width }
         ensures place { where_of result ≡ located (seen self.now) width (Val.Int at) }
         ensures spans { Spans self.now.tables width result }
@@ -97,7 +97,7 @@ impl Source {
 
     /// That behind the home of an object.
     #[inline(always)]
-    fn located_offset(&self, width: u32, object: u32, offset: u32) -> Spot
+    pub(super) fn located_offset(&self, width: u32, object: u32, offset: u32) -> Spot
         requires width { IsWidth width }
         requires object { object < length self.now.tables.graph.objects.items }
         ensures place { where_of result ≡ located (seen self.now) width (Val.Addr object offset) }

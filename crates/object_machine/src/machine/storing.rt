@@ -106,7 +106,12 @@ impl Source {
 
     /// Puts the first cells of a value at a place.
     #[inline(always)]
-    fn put_value(&mut self, kind: StoreKind, value: &Val, spot: &Spot) -> Result<(), AllocError>
+    pub(super) fn put_value(
+        &mut self,
+        kind: StoreKind,
+        value: &Val,
+        spot: &Spot,
+    ) -> Result<(), AllocError>
         requires spans { Spans self.old.tables (store_width kind) spot.now }
         requires of { IsOfGraph self.old.tables.graph value.now }
         ensures state { OnOk result (Becomes self.old self.new (stored_at (seen_state self.old) (where_of spot.now) (stored_cells kind value.now))) }

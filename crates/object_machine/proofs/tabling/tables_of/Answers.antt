@@ -26,6 +26,7 @@ invariant_of-result c =
       off = are.off;
       fit = are.fit;
       joined = are.joined;
+      named = c.in_ok-ops.ensures;
       begun = are.begun;
       ascending = are.ascending;
       reached_ascending = are.reached_ascending;

@@ -1,0 +1,93 @@
+-- The names of units.
+use Rattle.std.specs.Prelude.{◌≡◌, ℕ, ◌<◌, Bool, true, false, List, length, slice_index_or, is_some, Option, Some, None}
+use Rattle.std.specs.Int.{cast_signed, w32}
+use Rattle.std.specs.Coded.{Unit-prop, Coded-set, coded_bool, coded_option, le_prop}
+use Rattle.rv32im.specs.declared.instructions.Instr.{Instr}
+use Rattle.rv32im.specs.declared.instructions.Instr.TheVariants as instr
+use Rattle.rv32im.specs.declared.instructions.BranchKind.TheVariants as branch
+use Rattle.rv32im.specs.declared.instructions.LoadKind.TheVariants as load
+use Rattle.rv32im.specs.declared.instructions.StoreKind.TheVariants as store
+use Rattle.rv32im.specs.declared.instructions.ImmKind.TheVariants as imm_kind
+use Rattle.rv32im.specs.declared.instructions.RegKind.TheVariants as reg_kind
+use Rattle.object_machine.specs.declared.op.Op.{Op}
+use Rattle.object_machine.specs.declared.op.Op.TheVariants.{Lui, Jal, Jalr, Beq, Bne, Blt, Bge, Bltu, Bgeu, Lb, Lh, Lw, Lbu, Lhu, Sb, Sh, Sw, Addi, Andi, Slli, Srli, OpImm, Add, Sub, Xor, Or, And, Mul, OpReg, Other}
+use Rattle.object_machine.specs.declared.units.Prepared.{Prepared}
+use Rattle.object_machine.specs.Units.{unit_in, leads_on}
+use Rattle.object_machine.specs.InstrCode.{coded_instr}
+
+-- the instruction that a name stands for
+abbrev pub instr_of : Op → Option Instr
+instr_of (Lui rd imm) = Some (instr.Lui rd imm)
+instr_of (Jal rd n) = Some (instr.Jal rd (cast_signed w32 n))
+instr_of (Jalr rd rs1 n) = Some (instr.Jalr rd rs1 (cast_signed w32 n))
+instr_of (Beq rs1 rs2 n) = Some (instr.Branch branch.Beq rs1 rs2 (cast_signed w32 n))
+instr_of (Bne rs1 rs2 n) = Some (instr.Branch branch.Bne rs1 rs2 (cast_signed w32 n))
+instr_of (Blt rs1 rs2 n) = Some (instr.Branch branch.Blt rs1 rs2 (cast_signed w32 n))
+instr_of (Bge rs1 rs2 n) = Some (instr.Branch branch.Bge rs1 rs2 (cast_signed w32 n))
+instr_of (Bltu rs1 rs2 n) = Some (instr.Branch branch.Bltu rs1 rs2 (cast_signed w32 n))
+instr_of (Bgeu rs1 rs2 n) = Some (instr.Branch branch.Bgeu rs1 rs2 (cast_signed w32 n))
+instr_of (Lb rd rs1 n) = Some (instr.Load load.Lb rd rs1 (cast_signed w32 n))
+instr_of (Lh rd rs1 n) = Some (instr.Load load.Lh rd rs1 (cast_signed w32 n))
+instr_of (Lw rd rs1 n) = Some (instr.Load load.Lw rd rs1 (cast_signed w32 n))
+instr_of (Lbu rd rs1 n) = Some (instr.Load load.Lbu rd rs1 (cast_signed w32 n))
+instr_of (Lhu rd rs1 n) = Some (instr.Load load.Lhu rd rs1 (cast_signed w32 n))
+instr_of (Sb rs1 rs2 n) = Some (instr.Store store.Sb rs1 rs2 (cast_signed w32 n))
+instr_of (Sh rs1 rs2 n) = Some (instr.Store store.Sh rs1 rs2 (cast_signed w32 n))
+instr_of (Sw rs1 rs2 n) = Some (instr.Store store.Sw rs1 rs2 (cast_signed w32 n))
+instr_of (Addi rd rs1 n) = Some (instr.OpImm imm_kind.Addi rd rs1 (cast_signed w32 n))
+instr_of (Andi rd rs1 n) = Some (instr.OpImm imm_kind.Andi rd rs1 (cast_signed w32 n))
+instr_of (Slli rd rs1 n) = Some (instr.OpImm imm_kind.Slli rd rs1 (cast_signed w32 n))
+instr_of (Srli rd rs1 n) = Some (instr.OpImm imm_kind.Srli rd rs1 (cast_signed w32 n))
+instr_of (OpImm kind rd rs1 n) = Some (instr.OpImm kind rd rs1 (cast_signed w32 n))
+instr_of (Add rd rs1 rs2) = Some (instr.OpReg reg_kind.Add rd rs1 rs2)
+instr_of (Sub rd rs1 rs2) = Some (instr.OpReg reg_kind.Sub rd rs1 rs2)
+instr_of (Xor rd rs1 rs2) = Some (instr.OpReg reg_kind.Xor rd rs1 rs2)
+instr_of (Or rd rs1 rs2) = Some (instr.OpReg reg_kind.Or rd rs1 rs2)
+instr_of (And rd rs1 rs2) = Some (instr.OpReg reg_kind.And rd rs1 rs2)
+instr_of (Mul rd rs1 rs2) = Some (instr.OpReg reg_kind.Mul rd rs1 rs2)
+instr_of (OpReg kind rd rs1 rs2) = Some (instr.OpReg kind rd rs1 rs2)
+instr_of Other = None
+
+-- a unit is no site, and the next one is of its block
+pub record IsStraight (u : Prepared) : Type 0 where
+  pub site : is_some u.site ≡ false
+  pub goes_on : u.goes_on ≡ true
+
+-- a unit is this instruction alone, and one of those that lead to the next word is straight
+pub record IsNamed (u : Prepared) (i : Instr) : Type 0 where
+  pub instr : u.instr ≡ Some i
+  pub pair : is_some u.pair ≡ false
+  pub straight : leads_on i ≡ true → IsStraight u
+
+abbrev pub NamedBy : Prepared → Option Instr → Type 0
+NamedBy u None = Unit {0}
+NamedBy u (Some i) = IsNamed u i
+
+straight_prop : (u : Prepared) → IsProp (IsStraight u)
+straight_prop u = λ a b z. record {
+  site = Coded-set coded_bool _ _ a.site b.site z;
+  goes_on = Coded-set coded_bool _ _ a.goes_on b.goes_on z;
+}
+
+named_prop : (u : Prepared) (o : Option Instr) → IsProp (NamedBy u o)
+named_prop u None = Unit-prop
+named_prop u (Some i) = λ a b z. record {
+  instr = Coded-set (coded_option coded_instr) _ _ a.instr b.instr z;
+  pair = Coded-set coded_bool _ _ a.pair b.pair z;
+  straight = λ leads. straight_prop u (a.straight leads) (b.straight leads) z;
+}
+
+-- each unit has its name, of the first ones or of all
+abbrev pub op_in : List Op → ℕ → Op
+op_in ops k = slice_index_or ops k Other
+
+pub record AreNamed (units : List Prepared) (n : ℕ) (ops : List Op) : Type 0 where
+  pub count : length ops ≡ n
+  pub each : (k : ℕ) → k < n → NamedBy (unit_in units k) (instr_of (op_in ops k))
+
+unfoldable pub AreOps : List Prepared → List Op → Type 0
+AreOps units ops = (k : ℕ) → k < length units → (k < length ops) × NamedBy (unit_in units k) (instr_of (op_in ops k))
+
+pub AreOps-prop : (units : List Prepared) (ops : List Op) → IsProp (AreOps units ops)
+unfolding AreOps
+AreOps-prop units ops = λ a b z k below. (le_prop (a k below).0 (b k below).0 z, named_prop (unit_in units k) (instr_of (op_in ops k)) (a k below).1 (b k below).1 z)
