@@ -1,4 +1,4 @@
-use crate::cures::Cure;
+use crate::cures::{BAD_CERTIFICATE, BAD_HEX, Cure, OTHER_HEX};
 use crate::notes::{Notes, Piece};
 
 /// The statuses of a certificate, of a difference and of a text in Intel HEX.
@@ -7,33 +7,6 @@ const CERTIFICATE: u8 = 10;
 const DIFFERENCE: u8 = 11;
 
 const HEX: u8 = 14;
-
-const BAD_CERTIFICATE: Cure = Cure {
-    cause: "the certificate is cut off, was changed, or is one of another file, board or input",
-    first: "give the certificate that relink wrote for this file, this board and this input",
-};
-
-const OTHER_HEX: Cure = Cure {
-    cause: "the text in Intel HEX spells other bytes than the file loads, or another entry",
-    first: "write the text of this file anew, by hex",
-};
-
-const BAD_HEX: Cure = Cure {
-    cause: "a line is no record in Intel HEX, a record is of none of the types 00, 01, 04 and 05, an address is given twice, or the end record is not the last",
-    first: "write the text by hex, or leave out what docs/COMMAND_LINE.md#intel-hex does not name",
-};
-
-/// A name that the board's regions list, and no function has.
-pub const UNKNOWN_FUNCTION: Cure = Cure {
-    cause: ", and no function is called so",
-    first: "correct the name, or keep the symbols: strip by strip -g alone",
-};
-
-/// A name of a function that the board's regions list twice.
-pub const LISTED_TWICE: Cure = Cure {
-    cause: ", whose function they list before",
-    first: "list each function once",
-};
 
 /// Why something that a command reads beside FILE was refused, or differs from it, by the status of the command. Where a
 /// board is read a difference is that of a result, of which more is known later.

@@ -1,4 +1,4 @@
-use crate::cures::{Cure, text_at};
+use crate::cures::{ELF_FILE, text_at};
 use crate::notes::{Notes, Piece};
 use board_config::BoardFault;
 use std::alloc::{AllocError, Global};
@@ -53,11 +53,6 @@ const VALUES: [&str; 20] = [
 
 /// How an ELF file begins.
 const ELF_MAGIC: &[u8] = b"\x7fELF";
-
-const ELF_FILE: Cure = Cure {
-    cause: "the board is an ELF file",
-    first: "write FILE, and RESULT if there is one, before BOARD",
-};
 
 /// A line of a text, without its newline.
 #[derive(Clone, Copy)]

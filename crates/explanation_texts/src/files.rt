@@ -1,22 +1,7 @@
-use crate::cures::Cure;
+use crate::cures::{Cure, UNPRINTED, UNREAD, UNWRITTEN};
 use crate::notes::{Notes, Piece};
 use crate::usage::{Command, begin_word};
 use shelf_io::{FailedWrite, WriteCause};
-
-const UNREAD: Cure = Cure {
-    cause: "can't be read: it is missing, a folder or a socket, may not be read, or has over 128 MiB",
-    first: "correct the name, or make the file readable",
-};
-
-const UNWRITTEN: Cure = Cure {
-    cause: "can't be written: it is a folder or a socket, its folder is missing, no file may be made there, the disk is full, or who reads the pipe has closed it; a file there is as it was, a pipe may have got a part",
-    first: "make the folder, or give a name in a folder in which you may write and that has space",
-};
-
-const UNPRINTED: Cure = Cure {
-    cause: "the lines on standard output can't be written; all files were written",
-    first: "free space on the disk, or give another standard output, and call again",
-};
 
 /// A word whose file can't be read.
 pub fn say_unread(notes: &mut Notes, place: usize, word: &str) {

@@ -23,14 +23,12 @@ mod staying;
 mod terminal;
 mod usage;
 
-pub use answers::{
-    LISTED_TWICE, UNKNOWN_FUNCTION, explain_status, say_listed, say_many_blocks, say_small_patch,
-};
+pub use answers::{explain_status, say_listed, say_many_blocks, say_small_patch};
 pub use boards::{explain_board, gives_key, text_with_fixed};
 pub use comparisons::{
     BOTH_DIFFER, FILE_DIFFERS, MORE_STEPS, RESULT_DIFFERS, ResultEnd, say_compared, say_ended_early,
 };
-pub use cures::Cure;
+pub use cures::{Cure, LISTED_TWICE, NO_CODE, UNKNOWN_FUNCTION};
 pub use faults::{AddressFault, Culprit, Origin, Unpaired, Way};
 pub use files::{explain_unwritten, say_unread, say_unread_input};
 pub use fixes::{
@@ -43,7 +41,7 @@ pub use objects::{
     say_nothing_moved, say_pinned,
 };
 pub use pairing::{MixedParts, UNPAIRED_RUN, say_unpaired};
-pub use refusals::{NO_CODE, explain_elf, explain_layout};
+pub use refusals::{explain_elf, explain_layout};
 pub use regions::{
     Barrier, InwardCalls, say_full_patch, say_idle_driver, say_inward, say_lost_region,
 };

@@ -1,4 +1,4 @@
-use crate::cures::Cure;
+use crate::cures::{BARE_UPPER, OTHER_UPPER};
 use crate::faults::Unpaired;
 use crate::notes::{Notes, Piece};
 use crate::places::put_place;
@@ -17,18 +17,6 @@ pub struct MixedParts<'a> {
 /// That a measured run is not paired.
 pub const UNPAIRED_RUN: &str =
     "the measured run is not paired: FILE may do something else than its program";
-
-/// How a line on a unit ends that adds a low part to another upper part than its own, and the cure.
-const OTHER_UPPER: Cure = Cure {
-    cause: ", which its relocation does not name",
-    first: "make the address by lui, or by the upper part that the relocation names",
-};
-
-/// The same of an upper part whose low bits are taken as they are.
-const BARE_UPPER: Cure = Cure {
-    cause: ", which are those of the pc",
-    first: "make the address by lui, or add its low part before it is copied",
-};
 
 /// The first unit by which a run is not paired.
 pub fn say_unpaired(

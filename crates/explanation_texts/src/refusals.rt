@@ -1,4 +1,4 @@
-use crate::cures::{Cure, CureRow, cure_of};
+use crate::cures::{COMPRESSED, Cure, CureRow, OTHER_FORM, cure_of};
 use crate::notes::{Notes, Piece};
 use crate::relocations::say_unsupported;
 use board_config::{Board, Range};
@@ -54,22 +54,6 @@ const FIELDS: [CureRow; 5] = [
     },
 ];
 
-const COMPRESSED: Cure = Cure {
-    cause: "the file has compressed instructions (e_flags has RVC)",
-    first: "compile, assemble and link all of it with -march=rv32im -mabi=ilp32, libraries too",
-};
-
-const OTHER: Cure = Cure {
-    cause: "the file is no ELF file that a linker wrote, is cut off, or is over a limit of docs/COMMAND_LINE.md",
-    first: "give what the linker wrote, without debug sections (strip -g)",
-};
-
-/// A file that has no code.
-pub const NO_CODE: Cure = Cure {
-    cause: "no section that is loaded has code, or the entry is no word of it",
-    first: "keep the section headers (link without -s, strip by strip -g alone), and give the start symbol, as -Wl,-e,_start",
-};
-
 /// Why a file is not read.
 pub fn explain_elf(notes: &mut Notes, file: &UncheckedFile, fault: &ElfFault) {
     match *fault {
@@ -77,7 +61,7 @@ pub fn explain_elf(notes: &mut Notes, file: &UncheckedFile, fault: &ElfFault) {
             field: FLAGS,
             value,
         } if value & 1 == 1 => COMPRESSED.say(notes),
-        ElfFault::WrongKind { field, .. } => cure_of(&FIELDS, field, OTHER).say(notes),
+        ElfFault::WrongKind { field, .. } => cure_of(&FIELDS, field, OTHER_FORM).say(notes),
         ElfFault::Unsupported { index, kind } => say_unsupported(notes, file, index, kind),
         ElfFault::Compressed { section } => say_section(
             notes,
@@ -95,7 +79,7 @@ pub fn explain_elf(notes: &mut Notes, file: &UncheckedFile, fault: &ElfFault) {
             " does not lie inside the file, which is cut off: link it again",
         ),
         ElfFault::Memory => {}
-        _ => OTHER.say(notes),
+        _ => OTHER_FORM.say(notes),
     }
 }
 

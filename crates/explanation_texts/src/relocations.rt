@@ -1,4 +1,4 @@
-use crate::cures::{Cure, CureRow, cure_of, text_at};
+use crate::cures::{Cure, CureRow, OTHER_RELOCATION, cure_of, text_at};
 use crate::notes::{Notes, Piece};
 use crate::places::put_place;
 use unchecked_file::{RawRelocation, UncheckedFile};
@@ -92,11 +92,6 @@ const CURES: [CureRow; 3] = [
     },
 ];
 
-const OTHER: Cure = Cure {
-    cause: "the address is made in a way that cannot be written anew",
-    first: "link a static executable for -march=rv32im -mabi=ilp32, without -shared and -pie",
-};
-
 /// The kinds of thread-local symbols.
 const THREAD_LOCAL: [u32; 14] = [6, 7, 8, 9, 10, 11, 21, 22, 29, 30, 31, 32, 49, 50];
 
@@ -140,7 +135,7 @@ pub(crate) fn say_unsupported(notes: &mut Notes, file: &UncheckedFile, index: u3
         say_thread_local(notes, file);
         return;
     }
-    cure_of(&CURES, kind, OTHER).say(notes);
+    cure_of(&CURES, kind, OTHER_RELOCATION).say(notes);
 }
 
 /// The thread-local symbols that relocations name, each once for each function that uses it, and what to do.
