@@ -1,5 +1,5 @@
 -- Units that are performed by their names.
-use Rattle.std.proofs.Common.{◌≡◌, ℕ, ◌+◌, ◌||◌, Bool, true, false, is_some, if◌then◌else◌, Option, Some, None, refl, sym, ◌∙◌, ap, subst, arith}
+use Rattle.std.proofs.Common.{◌≡◌, ℕ, ◌+◌, true, false, is_some, Option, Some, None, refl, sym, ◌∙◌, ap, subst}
 use Rattle.rv32im.specs.declared.instructions.Instr.{Instr}
 use Rattle.code_blocks.specs.Early.{has}
 use Rattle.cell_values.specs.declared.values.Val.{Val}
@@ -9,16 +9,13 @@ use Rattle.object_machine.specs.declared.events.Event.{Event}
 use Rattle.object_machine.specs.declared.events.Outcome.{Outcome}
 use Rattle.object_machine.specs.declared.events.Outcome.TheVariants.{GoesOn}
 use Rattle.object_machine.specs.declared.units.Pair.{Pair}
-use Rattle.object_machine.specs.declared.units.Prepared.{Prepared}
-use Rattle.object_machine.specs.declared.tables.Tables.{Tables}
 use Rattle.object_machine.specs.declared.machine.Source.{Source}
-use Rattle.object_machine.specs.Program.{Program, Target}
+use Rattle.object_machine.specs.Program.{Program}
 use Rattle.object_machine.specs.State.{SourceState, wrote}
 use Rattle.object_machine.specs.Flow.{falls_on, jumps}
 use Rattle.object_machine.specs.Step.{acts, one_word, access_by}
 use Rattle.object_machine.specs.Units.{unit_in, target_of, leads_on}
-use Rattle.object_machine.specs.Ops.{IsNamed}
-use Rattle.object_machine.specs.Named.{Went, Stays}
+use Rattle.object_machine.specs.Named.{IsPresent, Went, Stays}
 use Rattle.object_machine.specs.Machine.{here, seen, seen_program, seen_state, next_by, accesses, when_going, Runs, StepsFrom, Becomes}
 
 next_from : (q : Program) (s : SourceState) (i : Instr) (read : Option Instr) (pair : Option Pair) → read ≡ Some i → is_some pair ≡ false → next_by q s read pair ≡ acts q s i (q.site s.pc)
@@ -30,7 +27,7 @@ told_from q s i read None is without = ap (access_by q s) is
 told_from q s i read (Some c) is without = cc
 
 -- a machine goes on as the instruction does
-pub went_by : (old new : Source) (i : Instr) (told : Option Access) → IsNamed (here old) i → new.tables ≡ old.tables → seen_state new ≡ acts (seen old) (seen_state old) i ((seen old).site old.pc) → new.outcome ≡ old.outcome → told ≡ access_by (seen old) (seen_state old) (Some i) → Went old new told
+pub went_by : (old new : Source) (i : Instr) (told : Option Access) → IsPresent old i → new.tables ≡ old.tables → seen_state new ≡ acts (seen old) (seen_state old) i ((seen old).site old.pc) → new.outcome ≡ old.outcome → told ≡ access_by (seen old) (seen_state old) (Some i) → Went old new told
 went_by old new i told named tables state outcome access =
     let u = here old in
     record {
@@ -49,22 +46,19 @@ no_site (Some s) without = cc
 falls_here : (q : Program) (s t : SourceState) → q.falls s.pc ≡ true → record t { pc = s.pc + 4 } ≡ falls_on q s t
 falls_here q s t falls = rw falls refl
 
-on_or : (a b : Bool) → a ≡ true → (a || b) ≡ true
-on_or a b is = rw is refl
-
-pub no_target : (old : Source) (i : Instr) → IsNamed (here old) i → leads_on i ≡ true → (seen old).site old.pc ≡ None
+pub no_target : (old : Source) (i : Instr) → IsPresent old i → leads_on i ≡ true → (seen old).site old.pc ≡ None
 no_target old i named leads = no_site (here old).site (named.straight leads).site
 
-pub went_on : (old new : Source) (i : Instr) (t : SourceState) (told : Option Access) → IsNamed (here old) i → leads_on i ≡ true → Becomes old new (record t { pc = old.pc + 4 }) → acts (seen old) (seen_state old) i None ≡ falls_on (seen old) (seen_state old) t → t.outcome ≡ old.outcome → told ≡ access_by (seen old) (seen_state old) (Some i) → Went old new told
+pub went_on : (old new : Source) (i : Instr) (t : SourceState) (told : Option Access) → IsPresent old i → leads_on i ≡ true → Becomes old new (record t { pc = old.pc + 4 }) → acts (seen old) (seen_state old) i None ≡ falls_on (seen old) (seen_state old) t → t.outcome ≡ old.outcome → told ≡ access_by (seen old) (seen_state old) (Some i) → Went old new told
 went_on old new i t told named leads becomes is outcome access =
     let q = seen old in
     let s = seen_state old in
-    let falls : q.falls s.pc ≡ true = on_or (here old).goes_on _ (named.straight leads).goes_on in
+    let falls : q.falls s.pc ≡ true = (named.straight leads).falls in
     let site = ap (acts q s i) (no_target old i named leads) in
     went_by old new i told named becomes.0 (becomes.1 ∙ (falls_here q s t falls ∙ (sym is ∙ sym site))) (ap (λ (x : SourceState). x.outcome) becomes.1 ∙ outcome) access
 
 -- a value is written
-pub wrote_on : (old new : Source) (i : Instr) (rd : ℕ) (v w : Val) (told : Option Access) → IsNamed (here old) i → leads_on i ≡ true → Becomes old new (record (wrote (seen_state old) rd v) { pc = old.pc + 4 }) → acts (seen old) (seen_state old) i None ≡ falls_on (seen old) (seen_state old) (wrote (seen_state old) rd w) → v ≡ w → told ≡ access_by (seen old) (seen_state old) (Some i) → Went old new told
+pub wrote_on : (old new : Source) (i : Instr) (rd : ℕ) (v w : Val) (told : Option Access) → IsPresent old i → leads_on i ≡ true → Becomes old new (record (wrote (seen_state old) rd v) { pc = old.pc + 4 }) → acts (seen old) (seen_state old) i None ≡ falls_on (seen old) (seen_state old) (wrote (seen_state old) rd w) → v ≡ w → told ≡ access_by (seen old) (seen_state old) (Some i) → Went old new told
 wrote_on old new i rd v w told named leads becomes is same access =
     let q = seen old in
     let s = seen_state old in
@@ -76,7 +70,7 @@ pub jumped : (q : Program) (s t : SourceState) (a : ℕ) → q.is_block a ≡ tr
 jumped q s t a block = rw block refl
 
 -- a value is written, and the machine is at a block
-pub linked : (old set new : Source) (i : Instr) (rd place a : ℕ) (v : Val) → IsNamed (here old) i → Becomes old set (wrote (seen_state old) rd v) → Becomes set new (record (seen_state set) { pc = (unit_in set.tables.units.items place).at }) → (unit_in old.tables.units.items place).at ≡ a → has old.tables.starts.items a ≡ true → acts (seen old) (seen_state old) i ((seen old).site old.pc) ≡ jumps (seen old) (seen_state old) a (wrote (seen_state old) rd v) → None ≡ access_by (seen old) (seen_state old) (Some i) → Went old new None
+pub linked : (old set new : Source) (i : Instr) (rd place a : ℕ) (v : Val) → IsPresent old i → Becomes old set (wrote (seen_state old) rd v) → Becomes set new (record (seen_state set) { pc = (unit_in set.tables.units.items place).at }) → (unit_in old.tables.units.items place).at ≡ a → has old.tables.starts.items a ≡ true → acts (seen old) (seen_state old) i ((seen old).site old.pc) ≡ jumps (seen old) (seen_state old) a (wrote (seen_state old) rd v) → None ≡ access_by (seen old) (seen_state old) (Some i) → Went old new None
 linked old set new i rd place a v named written entered at block is access =
     let s = seen_state old in
     let state : seen_state new ≡ record (wrote s rd v) { pc = a } =

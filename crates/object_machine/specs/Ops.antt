@@ -1,7 +1,7 @@
 -- The names of units.
-use Rattle.std.specs.Prelude.{◌≡◌, ℕ, ◌<◌, Bool, true, false, List, length, slice_index_or, is_some, Option, Some, None}
+use Rattle.std.specs.Prelude.{◌≡◌, ℕ, ◌+◌, ◌<◌, true, false, ◌||◌, List, length, slice_index_or, is_some, Option, Some, None}
 use Rattle.std.specs.Int.{cast_signed, w32}
-use Rattle.std.specs.Coded.{Unit-prop, Coded-set, coded_bool, coded_option, le_prop}
+use Rattle.std.specs.Coded.{Unit-prop, Coded-set, coded_bool, coded_ℕ, coded_option, le_prop}
 use Rattle.rv32im.specs.declared.instructions.Instr.{Instr}
 use Rattle.rv32im.specs.declared.instructions.Instr.TheVariants as instr
 use Rattle.rv32im.specs.declared.instructions.BranchKind.TheVariants as branch
@@ -9,10 +9,11 @@ use Rattle.rv32im.specs.declared.instructions.LoadKind.TheVariants as load
 use Rattle.rv32im.specs.declared.instructions.StoreKind.TheVariants as store
 use Rattle.rv32im.specs.declared.instructions.ImmKind.TheVariants as imm_kind
 use Rattle.rv32im.specs.declared.instructions.RegKind.TheVariants as reg_kind
+use Rattle.code_blocks.specs.Early.{has}
 use Rattle.object_machine.specs.declared.op.Op.{Op}
 use Rattle.object_machine.specs.declared.op.Op.TheVariants.{Lui, Jal, Jalr, Beq, Bne, Blt, Bge, Bltu, Bgeu, Lb, Lh, Lw, Lbu, Lhu, Sb, Sh, Sw, Addi, Andi, Slli, Srli, OpImm, Add, Sub, Xor, Or, And, Mul, OpReg, Other}
 use Rattle.object_machine.specs.declared.units.Prepared.{Prepared}
-use Rattle.object_machine.specs.Units.{unit_in, leads_on}
+use Rattle.object_machine.specs.Units.{unit_in, IsUnitAt, leads_on}
 use Rattle.object_machine.specs.InstrCode.{coded_instr}
 
 -- the instruction that a name stands for
@@ -48,46 +49,48 @@ instr_of (Mul rd rs1 rs2) = Some (instr.OpReg reg_kind.Mul rd rs1 rs2)
 instr_of (OpReg kind rd rs1 rs2) = Some (instr.OpReg kind rd rs1 rs2)
 instr_of Other = None
 
--- a unit is no site, and the next one is of its block
-pub record IsStraight (u : Prepared) : Type 0 where
-  pub site : is_some u.site ≡ false
-  pub goes_on : u.goes_on ≡ true
+-- unit `k` is no site, and the next one is of its block or begins another
+pub record IsStraight (units : List Prepared) (starts : List ℕ) (k : ℕ) : Type 0 where
+  pub site : is_some (unit_in units k).site ≡ false
+  pub falls : ((unit_in units k).goes_on || has starts ((unit_in units k).at + 4)) ≡ true
+  pub next : IsUnitAt units (k + 1) ((unit_in units k).at + 4)
 
--- a unit is this instruction alone, and one of those that lead to the next word is straight
-pub record IsNamed (u : Prepared) (i : Instr) : Type 0 where
-  pub instr : u.instr ≡ Some i
-  pub pair : is_some u.pair ≡ false
-  pub straight : leads_on i ≡ true → IsStraight u
+-- it is this instruction alone, and one of those that lead to the next word is straight
+pub record IsNamed (units : List Prepared) (starts : List ℕ) (k : ℕ) (i : Instr) : Type 0 where
+  pub instr : (unit_in units k).instr ≡ Some i
+  pub pair : is_some (unit_in units k).pair ≡ false
+  pub straight : leads_on i ≡ true → IsStraight units starts k
 
-abbrev pub NamedBy : Prepared → Option Instr → Type 0
-NamedBy u None = Unit {0}
-NamedBy u (Some i) = IsNamed u i
+abbrev pub NamedBy : List Prepared → List ℕ → ℕ → Option Instr → Type 0
+NamedBy units starts k None = Unit {0}
+NamedBy units starts k (Some i) = IsNamed units starts k i
 
-straight_prop : (u : Prepared) → IsProp (IsStraight u)
-straight_prop u = λ a b z. record {
+straight_prop : (units : List Prepared) (starts : List ℕ) (k : ℕ) → IsProp (IsStraight units starts k)
+straight_prop units starts k = λ a b z. record {
   site = Coded-set coded_bool _ _ a.site b.site z;
-  goes_on = Coded-set coded_bool _ _ a.goes_on b.goes_on z;
+  falls = Coded-set coded_bool _ _ a.falls b.falls z;
+  next = (le_prop a.next.0 b.next.0 z, Coded-set coded_ℕ _ _ a.next.1 b.next.1 z);
 }
 
-named_prop : (u : Prepared) (o : Option Instr) → IsProp (NamedBy u o)
-named_prop u None = Unit-prop
-named_prop u (Some i) = λ a b z. record {
+named_prop : (units : List Prepared) (starts : List ℕ) (k : ℕ) (o : Option Instr) → IsProp (NamedBy units starts k o)
+named_prop units starts k None = Unit-prop
+named_prop units starts k (Some i) = λ a b z. record {
   instr = Coded-set (coded_option coded_instr) _ _ a.instr b.instr z;
   pair = Coded-set coded_bool _ _ a.pair b.pair z;
-  straight = λ leads. straight_prop u (a.straight leads) (b.straight leads) z;
+  straight = λ leads. straight_prop units starts k (a.straight leads) (b.straight leads) z;
 }
 
 -- each unit has its name, of the first ones or of all
 abbrev pub op_in : List Op → ℕ → Op
 op_in ops k = slice_index_or ops k Other
 
-pub record AreNamed (units : List Prepared) (n : ℕ) (ops : List Op) : Type 0 where
+pub record AreNamed (units : List Prepared) (starts : List ℕ) (n : ℕ) (ops : List Op) : Type 0 where
   pub count : length ops ≡ n
-  pub each : (k : ℕ) → k < n → NamedBy (unit_in units k) (instr_of (op_in ops k))
+  pub each : (k : ℕ) → k < n → NamedBy units starts k (instr_of (op_in ops k))
 
-unfoldable pub AreOps : List Prepared → List Op → Type 0
-AreOps units ops = (k : ℕ) → k < length units → (k < length ops) × NamedBy (unit_in units k) (instr_of (op_in ops k))
+unfoldable pub AreOps : List Prepared → List ℕ → List Op → Type 0
+AreOps units starts ops = (k : ℕ) → k < length units → (k < length ops) × NamedBy units starts k (instr_of (op_in ops k))
 
-pub AreOps-prop : (units : List Prepared) (ops : List Op) → IsProp (AreOps units ops)
+pub AreOps-prop : (units : List Prepared) (starts : List ℕ) (ops : List Op) → IsProp (AreOps units starts ops)
 unfolding AreOps
-AreOps-prop units ops = λ a b z k below. (le_prop (a k below).0 (b k below).0 z, named_prop (unit_in units k) (instr_of (op_in ops k)) (a k below).1 (b k below).1 z)
+AreOps-prop units starts ops = λ a b z k below. (le_prop (a k below).0 (b k below).0 z, named_prop units starts k (instr_of (op_in ops k)) (a k below).1 (b k below).1 z)

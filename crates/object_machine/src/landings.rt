@@ -14,7 +14,7 @@ const MOST_LANDINGS: u64 = 0x4_0000;
 
 /// A unit is at an address.
 #[inline(always)]
-fn is_unit_at(units: &Vec<Prepared>, place: usize, address: u64) -> bool
+pub(crate) fn is_unit_at(units: &Vec<Prepared>, place: usize, address: u64) -> bool
     ensures { IsTrue result → IsUnitAt units.now.items place address }
 {
     place < units.len() && u64::from(units[place].at) == address

@@ -1,44 +1,80 @@
-ghost use Rattle.std.specs.Prelude.{◌≡◌, true, false, Some, length, IfOk};
+ghost use Rattle.std.specs.Prelude.{◌≡◌, ◌<◌, ℕ, List, true, false, Some, length, IfOk, IsTrue};
 ghost use Rattle.rv32im.specs.declared.instructions.Instr.{Instr};
 ghost use Rattle.std.specs.Int.{cast_signed, w32};
-ghost use Rattle.object_machine.specs.{declared.units.Prepared.{Prepared}, Units.{leads_on}, Ops.{instr_of, IsNamed, NamedBy, AreOps}};
+ghost use Rattle.object_machine.specs.{declared.units.Prepared.{Prepared}, Landings.{AreLandings}, Units.{unit_in, leads_on}, Ops.{instr_of, IsStraight, IsNamed, NamedBy, AreOps}};
 
+use crate::landings::{is_unit_at, landing};
 use crate::op::Op;
 use crate::units::Prepared;
 use rv32im::{BranchKind, ImmKind, Instr, LoadKind, RegKind, StoreKind};
 use std::alloc::{AllocError, Global};
 
-/// The names of units.
-pub(crate) fn named_units(alloc: Global, units: &Vec<Prepared>) -> Result<Vec<Op>, AllocError>
-    ensures { IfOk result (λ ops. AreOps units.now.items ops.items) }
+/// The names of units, where the first landing is that of the address `first`.
+pub(crate) fn named_units(
+    alloc: Global,
+    units: &Vec<Prepared>,
+    landings: &Vec<usize>,
+    first: u64,
+) -> Result<Vec<Op>, AllocError>
+    ensures { IfOk result (λ ops. (starts : List ℕ) → AreLandings units.now.items starts landings.now.items → AreOps units.now.items starts ops.items) }
 {
     let mut ops = Vec::new(alloc);
     for k in 0..units.len() {
-        ops.push(name_of(&units[k]))?;
+        ops.push(name_of(units, landings, first, k))?;
     }
     Ok(ops)
 }
 
-/// The name of a unit.
-fn name_of(unit: &Prepared) -> Op
-    ensures { NamedBy unit.now (instr_of result) }
+/// The name of the unit at a place.
+fn name_of(units: &Vec<Prepared>, landings: &Vec<usize>, first: u64, k: usize) -> Op
+    requires { k < length units.now.items }
+    ensures { (starts : List ℕ) → AreLandings units.now.items starts landings.now.items → NamedBy units.now.items starts k (instr_of result) }
 {
+    let straight = is_straight(units, landings, first, k);
+    let unit = unit_at(units, k);
     if unit.pair.is_some() {
         return Op::Other;
     }
     let Some(i) = unit.instr else {
         return Op::Other;
     };
-    if unit.goes_on && unit.site.is_none() {
+    if straight {
         straight_name(i)
     } else {
         jump_name(i)
     }
 }
 
+/// The unit at a place.
+fn unit_at(units: &Vec<Prepared>, k: usize) -> Prepared
+    requires { k < length units.now.items }
+    ensures { result ≡ unit_in units.now.items k }
+{
+    units[k]
+}
+
+/// Whether the unit at a place is no site, and the next one is of its block or begins another.
+fn is_straight(units: &Vec<Prepared>, landings: &Vec<usize>, first: u64, k: usize) -> bool
+    requires { k < length units.now.items }
+    ensures { IsTrue result → (starts : List ℕ) → AreLandings units.now.items starts landings.now.items → IsStraight units.now.items starts k }
+{
+    let unit = unit_at(units, k);
+    let behind = u64::from(unit.at) + 4;
+    if unit.site.is_some() || !is_unit_at(units, k + 1, behind) {
+        return false;
+    }
+    if unit.goes_on {
+        return true;
+    }
+    match landing(landings, units, first, behind) {
+        Some(_) => true,
+        None => false,
+    }
+}
+
 /// The name of an instruction that leads to a block.
 fn jump_name(i: Instr) -> Op
-    ensures { (u : Prepared) → (leads_on i ≡ false → IsNamed u i) → NamedBy u (instr_of result) }
+    ensures { (units : List Prepared) (starts : List ℕ) (k : ℕ) → (leads_on i ≡ false → IsNamed units starts k i) → NamedBy units starts k (instr_of result) }
 {
     match i {
         Instr::Jal { rd, off } => Op::Jal {
@@ -62,7 +98,7 @@ fn jump_name(i: Instr) -> Op
 
 /// The name of an instruction of a straight unit.
 fn straight_name(i: Instr) -> Op
-    ensures { (u : Prepared) → IsNamed u i → NamedBy u (instr_of result) }
+    ensures { (units : List Prepared) (starts : List ℕ) (k : ℕ) → IsNamed units starts k i → NamedBy units starts k (instr_of result) }
 {
     match i {
         Instr::Lui { rd, imm } => Op::Lui { rd, imm },
@@ -75,7 +111,7 @@ fn straight_name(i: Instr) -> Op
         } => store_name(kind, rs1, rs2, imm.cast_unsigned()),
         Instr::OpImm { kind, rd, rs1, imm } => imm_name(kind, rd, rs1, imm.cast_unsigned()),
         Instr::OpReg { kind, rd, rs1, rs2 } => reg_name(kind, rd, rs1, rs2),
-        _ => Op::Other,
+        _ => jump_name(i),
     }
 }
 

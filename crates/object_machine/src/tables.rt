@@ -40,7 +40,7 @@ pub(crate) struct Tables {
     pub(crate) ghost off: { LieOff fixed.items graph },
     pub(crate) ghost fit: { AreFit (length graph.objects.items) units.items },
     pub(crate) ghost joined: { AreJoined units.items },
-    pub(crate) ghost named: { AreOps units.items ops.items } by { AreOps-prop units.items ops.items },
+    pub(crate) ghost named: { AreOps units.items starts.items ops.items } by { AreOps-prop units.items starts.items ops.items },
     pub(crate) ghost begun: { AreStarts units.items starts.items places.items },
     pub(crate) ghost numbered: { HasNumbers starts.items units.items numbers.items },
     pub(crate) ghost ascending: { IsStrictlyIncreasing starts.items },
@@ -55,14 +55,14 @@ pub(crate) struct Tables {
 impl Tables {
     ghost use Rattle.std.specs.Prelude.{false, ◌+◌, ◌<◌, ◌≤◌, IsTrue, MatchOption};
     ghost use Rattle.code_blocks.specs.Early.{has};
-    ghost use Rattle.object_machine.specs.{Units.{unit_in, IsUnitAt, FitsRead}, Ops.{instr_of, NamedBy}, Layout.{is_in_some}};
+    ghost use Rattle.object_machine.specs.{Units.{IsUnitAt, FitsRead}, Ops.{instr_of, NamedBy}, Layout.{is_in_some}};
 
     /// The name of the unit at a place.
     #[inline(always)]
     #[tactic(auto, unfolding(crate::specs::Ops::AreOps))]
     pub(crate) fn op_at(&self, place: usize) -> Op
         requires { place < length self.now.units.items }
-        ensures named { NamedBy (unit_in self.now.units.items place) (instr_of result) }
+        ensures named { NamedBy self.now.units.items self.now.starts.items place (instr_of result) }
         ensures fits { FitsRead (instr_of result) }
     {
         self.ops[place]

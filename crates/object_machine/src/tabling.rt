@@ -43,7 +43,12 @@ pub(crate) fn tables_of(
     let fixed = fixed_ranges(alloc, view, board, graph)?;
     let numbers = block_numbers(alloc, code, &block_units.units)?;
     let landings = block_landings(alloc, &block_units)?;
-    let ops = named_units(alloc, &block_units.units)?;
+    let ops = named_units(
+        alloc,
+        &block_units.units,
+        &landings,
+        first_start(&block_units.starts),
+    )?;
     let reached_landings = reached_landings(alloc, &block_units, &landings, &reached)?;
     Ok(Tables {
         graph: objects,

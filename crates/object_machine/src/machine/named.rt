@@ -13,12 +13,12 @@ impl Source {
     ghost use Rattle.std.specs.Int.{cast_signed, w32};
     ghost use Rattle.rv32im.specs.declared.instructions.Instr.{Instr};
     ghost use Rattle.cell_values.specs.{Objects.{IsOfGraph, objects_of}, Operations.{op_imm, op_reg}, Comparisons.{compare}};
-    ghost use Rattle.object_machine.specs.{State.{value, wrote}, Places.{located, Nowhere}, Spots.{where_of, IsWidth, Spans, IsSomewhere}, Ops.{IsNamed, NamedBy, instr_of}, Units.{FitsRead}, Named.{Went, Stays, Tried, Lands}, Machine.{here, seen, seen_state, Becomes}};
+    ghost use Rattle.object_machine.specs.{State.{value, wrote}, Places.{located, Nowhere}, Spots.{where_of, IsWidth, Spans, IsSomewhere}, Ops.{instr_of}, Units.{FitsRead}, Named.{IsPresent, IsPresentBy, LeadsOn, Went, Stays, Tried, Lands}, Machine.{here, seen, seen_state, Becomes}};
 
     /// The name of the present unit.
     #[inline(always)]
     pub(super) fn op(&self) -> Op
-        ensures named { NamedBy (here self.now) (instr_of result) }
+        ensures named { IsPresentBy self.now (instr_of result) }
         ensures fits { FitsRead (instr_of result) }
     {
         self.tables.op_at(self.place)
@@ -27,7 +27,7 @@ impl Source {
     /// Performs the present unit by its name, if it has one and the machine goes on. Tells of its access.
     #[inline(always)]
     pub(super) fn perform_named(&mut self, op: Op) -> Option<Option<Access>>
-        requires named { NamedBy (here self.old) (instr_of op) }
+        requires named { IsPresentBy self.old (instr_of op) }
         requires fits { FitsRead (instr_of op) }
         ensures { Tried self.old self.new result }
     {
@@ -68,7 +68,7 @@ impl Source {
     /// Goes to the next unit of the block.
     #[inline(always)]
     fn advance(&mut self)
-        requires { (here self.old).goes_on ≡ true }
+        requires { LeadsOn self.old }
         ensures { Becomes self.old self.new (record (seen_state self.old) { pc = self.old.pc + 4 }) }
     {
         self.place += 1;
@@ -80,7 +80,7 @@ impl Source {
     fn write_on(&mut self, rd: u8, v: Val)
         requires rd { rd < 32 }
         requires of { IsOfGraph self.old.tables.graph v }
-        requires goes_on { (here self.old).goes_on ≡ true }
+        requires straight { LeadsOn self.old }
         ensures { Becomes self.old self.new (record (wrote (seen_state self.old) rd v) { pc = self.old.pc + 4 }) }
     {
         self.set_register(rd, v);
@@ -92,7 +92,7 @@ impl Source {
     fn named_lui(&mut self, rd: u8, imm: u32) -> Option<Option<Access>>
         requires rd { rd < 32 }
         requires imm { imm < 1048576 }
-        requires named { IsNamed (here self.old) (Instr.Lui rd imm) }
+        requires named { IsPresent self.old (Instr.Lui rd imm) }
         ensures { Tried self.old self.new result }
     {
         self.write_on(rd, Val::Int(imm << 12));
@@ -104,7 +104,7 @@ impl Source {
     fn named_imm(&mut self, kind: ImmKind, rd: u8, rs1: u8, imm: u32) -> Option<Option<Access>>
         requires rd { rd < 32 }
         requires rs1 { rs1 < 32 }
-        requires named { IsNamed (here self.old) (Instr.OpImm kind rd rs1 (cast_signed w32 imm)) }
+        requires named { IsPresent self.old (Instr.OpImm kind rd rs1 (cast_signed w32 imm)) }
         ensures { Tried self.old self.new result }
     {
         match self.register(rs1) {
@@ -127,7 +127,7 @@ impl Source {
     fn write_imm(&mut self, kind: ImmKind, rd: u8, rs1: u8, imm: u32)
         requires rd { rd < 32 }
         requires rs1 { rs1 < 32 }
-        requires goes_on { (here self.old).goes_on ≡ true }
+        requires straight { LeadsOn self.old }
         ensures { let s = seen_state self.old in
             Becomes self.old self.new (record (wrote s rd (op_imm (objects_of self.old.tables.graph) kind (value s.regs rs1) (cast_signed w32 imm))) { pc = self.old.pc + 4 }) }
     {
@@ -141,7 +141,7 @@ impl Source {
         requires rd { rd < 32 }
         requires rs1 { rs1 < 32 }
         requires rs2 { rs2 < 32 }
-        requires named { IsNamed (here self.old) (Instr.OpReg kind rd rs1 rs2) }
+        requires named { IsPresent self.old (Instr.OpReg kind rd rs1 rs2) }
         ensures { Tried self.old self.new result }
     {
         match self.register(rs1) {
@@ -160,7 +160,7 @@ impl Source {
         requires rd { rd < 32 }
         requires rs1 { rs1 < 32 }
         requires rs2 { rs2 < 32 }
-        requires goes_on { (here self.old).goes_on ≡ true }
+        requires straight { LeadsOn self.old }
         ensures { let s = seen_state self.old in
             Becomes self.old self.new (record (wrote s rd (op_reg (objects_of self.old.tables.graph) kind (value s.regs rs1) (value s.regs rs2))) { pc = self.old.pc + 4 }) }
     {
@@ -193,7 +193,7 @@ impl Source {
     ) -> Option<Option<Access>>
         requires rs1 { rs1 < 32 }
         requires rs2 { rs2 < 32 }
-        requires named { IsNamed (here self.old) (Instr.Branch kind rs1 rs2 (cast_signed w32 off)) }
+        requires named { IsPresent self.old (Instr.Branch kind rs1 rs2 (cast_signed w32 off)) }
         ensures { Tried self.old self.new result }
     {
         let target = match self.is_taken(kind, rs1, rs2) {
@@ -238,7 +238,7 @@ impl Source {
     #[inline(always)]
     fn named_jal(&mut self, rd: u8, off: u32) -> Option<Option<Access>>
         requires rd { rd < 32 }
-        requires named { IsNamed (here self.old) (Instr.Jal rd (cast_signed w32 off)) }
+        requires named { IsPresent self.old (Instr.Jal rd (cast_signed w32 off)) }
         ensures { Tried self.old self.new result }
     {
         match self.tables.block_at(u64::from(self.pc.wrapping_add(off))) {
@@ -257,7 +257,7 @@ impl Source {
     fn named_jalr(&mut self, rd: u8, rs1: u8, imm: u32) -> Option<Option<Access>>
         requires rd { rd < 32 }
         requires rs1 { rs1 < 32 }
-        requires named { IsNamed (here self.old) (Instr.Jalr rd rs1 (cast_signed w32 imm)) }
+        requires named { IsPresent self.old (Instr.Jalr rd rs1 (cast_signed w32 imm)) }
         ensures { Tried self.old self.new result }
     {
         match self.register(rs1) {
@@ -297,7 +297,7 @@ impl Source {
     fn named_load(&mut self, kind: LoadKind, rd: u8, rs1: u8, imm: u32) -> Option<Option<Access>>
         requires rd { rd < 32 }
         requires rs1 { rs1 < 32 }
-        requires named { IsNamed (here self.old) (Instr.Load kind rd rs1 (cast_signed w32 imm)) }
+        requires named { IsPresent self.old (Instr.Load kind rd rs1 (cast_signed w32 imm)) }
         ensures { Tried self.old self.new result }
     {
         let spot = self.named_spot(load_bytes(kind), rs1, imm);
@@ -316,7 +316,7 @@ impl Source {
     fn named_store(&mut self, kind: StoreKind, rs1: u8, rs2: u8, imm: u32) -> Option<Option<Access>>
         requires rs1 { rs1 < 32 }
         requires rs2 { rs2 < 32 }
-        requires named { IsNamed (here self.old) (Instr.Store kind rs1 rs2 (cast_signed w32 imm)) }
+        requires named { IsPresent self.old (Instr.Store kind rs1 rs2 (cast_signed w32 imm)) }
         ensures { Tried self.old self.new result }
     {
         let spot = self.named_spot(store_bytes(kind), rs1, imm);

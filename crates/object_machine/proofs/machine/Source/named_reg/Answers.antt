@@ -1,4 +1,4 @@
-use Rattle.std.proofs.Common.{◌≡◌, None, refl, sym, ◌∙◌, ap}
+use Rattle.std.proofs.Common.{None, refl, sym, ◌∙◌, ap}
 use Rattle.cell_values.specs.Objects.{objects_of}
 use Rattle.cell_values.specs.declared.values.Val.TheVariants.{Int}
 use Rattle.rv32im.specs.declared.instructions.Instr.TheVariants.{OpReg}
