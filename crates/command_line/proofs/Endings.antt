@@ -3,6 +3,7 @@ use Rattle.std.proofs.Common.{◌≡◌, ◌⊎◌, inl, inr, ℕ, List, [], ◌
 use Rattle.std.proofs.lemmas.Fmt.{decimal_digit}
 use Rattle.shelf_io.specs.Shelf.{ShelfView, SetsName, LosesName}
 use Rattle.shelf_io.specs.Sink.{SinkView}
+use Rattle.printed_lines.specs.Texts.{text_of}
 use Rattle.command_language.specs.Command.{PlainCommand, Named, writes}
 use Rattle.command_line.specs.Diagnostic.{IsDiagnosticOf, IsDiagnosticOrMemory}
 use Rattle.command_line.specs.Delivery.{ArePrepared, SetsAll, SetsPrepared, LosesOne, WantsInOne, FailsToWrite, write_fails, wants_memory, DeliversAll, FailsToDeliver, writing_fails, print_fails}
@@ -71,7 +72,7 @@ write_failure (w ∷ names) (x ∷ outputs) (o ∷ prepared) old new r a (inr la
 
 -- what a prepared command yields of the shelf as it was
 yields_of : (command : PlainCommand) (prepared : PreparedResult) (old mid : ShelfView) (p : IsPrepared command prepared old mid)
-    → YieldsOf command p.prepared_for.outputs prepared.text.items old
+    → YieldsOf command p.prepared_for.outputs (text_of prepared.text) old
 yields_of command prepared old mid p =
     record { inputs = p.inputs; holds = p.holds; yields = p.prepared_for.yields }
 

@@ -6,6 +6,7 @@ pub mod Exactness
 pub mod Running
 pub mod Analysing
 pub mod Profiling
+pub mod Puttings
 pub mod Stating
 pub mod ComparingFiles
 pub mod Certificates

@@ -2,6 +2,7 @@
 use Rattle.std.specs.Prelude.{◌≡◌, ◌⊎◌, ℕ, List, [], ◌∷◌}
 use Rattle.shelf_io.specs.Shelf.{ShelfView, SetsName, LosesName, WantsMemory}
 use Rattle.shelf_io.specs.Sink.{SinkView, PutAll, PutSome}
+use Rattle.printed_lines.specs.Texts.{text_of}
 use Rattle.command_language.specs.Command.{Named}
 use Rattle.command_line.specs.Diagnostic.{IsDiagnosticOf}
 use Rattle.command_line.specs.declared.delivery.Output.{Output}
@@ -70,10 +71,10 @@ FailsToWrite (o ∷ prepared) old new r =
 -- the outputs were written and the text printed
 pub record DeliversAll (prepared : PreparedResult) (old new : ShelfView) (sink sink' : SinkView) : Type 0 where
   pub set : SetsPrepared prepared.outputs.items old new
-  pub printed : PutAll (prepared.text.items) sink sink'
+  pub printed : PutAll (text_of prepared.text) sink sink'
 
 -- a step failed: a write, the memory for one, or the print
 pub data FailsToDeliver (prepared : PreparedResult) (old new : ShelfView) (sink mid : SinkView) (r : Diagnostic) : Type 0 where
   writing_fails : FailsToWrite prepared.outputs.items old new r → mid ≡ sink → FailsToDeliver prepared old new sink mid r
   print_fails : r ≡ prepared.print_fault → SetsPrepared prepared.outputs.items old new
-      → PutSome (prepared.text.items) sink mid → FailsToDeliver prepared old new sink mid r
+      → PutSome (text_of prepared.text) sink mid → FailsToDeliver prepared old new sink mid r

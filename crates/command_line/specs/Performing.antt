@@ -3,6 +3,7 @@ use Rattle.std.specs.Prelude.{◌≡◌, ◌⊎◌, ℕ, List, [], ◌++◌, len
 use Rattle.shelf_io.specs.Shelf.{ShelfView}
 use Rattle.relinking.specs.declared.measuring.MeasuredEnd.{MeasuredEnd}
 use Rattle.shelf_io.specs.Sink.{SinkView, PutAll, PutSome}
+use Rattle.printed_lines.specs.Texts.{text_of}
 use Rattle.command_language.specs.Command.{PlainCommand, reads, writes}
 use Rattle.command_line.specs.Reading.{RejectsReads}
 use Rattle.command_line.specs.Listing.{further_reads, HoldsInputs, RejectsNames}
@@ -18,7 +19,7 @@ use Rattle.command_language.specs.declared.faults.CommandFault.TheVariants as co
 -- the result of a command on these inputs, with the faults of the steps to come
 pub record IsPreparedFor (command : PlainCommand) (inputs : List (List ℕ)) (prepared : PreparedResult) : Type 0 where
   pub outputs : List (List ℕ)
-  pub yields : Yields command inputs outputs prepared.text.items
+  pub yields : Yields command inputs outputs (text_of prepared.text)
   pub prepared_outputs : ArePrepared (writes command) outputs prepared.outputs.items
   pub print_fault : IsDiagnosticOf (command_fault.Write 0) prepared.print_fault
   pub measured : TellsEnd command inputs prepared.measured

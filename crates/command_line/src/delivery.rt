@@ -6,8 +6,9 @@ ghost use Rattle.shelf_io.specs.Shelf.{SetsName};
 
 use crate::chosen::ChosenPlacement;
 use crate::diagnostic::Diagnostic;
-use crate::printing::put_piece;
+use crate::printing::put_text;
 use command_language::CommandFault;
+use printed_lines::Text;
 use relinking::MeasuredEnd;
 use shelf_io::{Shelf, ShelfFault, Sink};
 use std::alloc::{AllocError, Global};
@@ -46,7 +47,7 @@ pub struct PreparedResult<'a> {
     /// What is written, in this order.
     pub outputs: Vec<Output<'a>>,
     /// What is printed. It may hold names as a file has them, which needn't be UTF-8.
-    pub text: Vec<u8>,
+    pub text: Text<'a>,
     pub print_fault: Diagnostic,
     /// How the run ended that the command measured, if it measured one.
     pub measured: Option<MeasuredEnd>,
@@ -57,18 +58,19 @@ pub struct PreparedResult<'a> {
 impl<'a> PreparedResult<'a> {
     ghost use Rattle.std.specs.Prelude.{◌≡◌, ◌∷◌, [], IfOk};
     ghost use Rattle.command_language.specs.Command.{named};
+    ghost use Rattle.printed_lines.specs.Texts.{text_of};
     ghost use Rattle.command_line.specs.{Delivery.{ArePrepared}, Diagnostic.{IsDiagnosticOf}};
     ghost use Rattle.command_language.specs.declared.faults.CommandFault.TheVariants as command_fault;
 
     /// A result that is only printed.
     pub fn printed(
         alloc: Global,
-        text: Vec<u8>,
+        text: Text<'a>,
         measured: Option<MeasuredEnd>,
         chosen: Option<ChosenPlacement>,
     ) -> Result<PreparedResult<'a>, AllocError>
         ensures outputs { IfOk result (λ prepared. ArePrepared [] [] prepared.outputs.items) }
-        ensures text { IfOk result (λ prepared. prepared.text ≡ text) }
+        ensures text { IfOk result (λ prepared. text_of prepared.text ≡ text_of text.entry) }
         ensures print_fault { IfOk result (λ prepared. IsDiagnosticOf (command_fault.Write 0) prepared.print_fault) }
         ensures measured { IfOk result (λ prepared. prepared.measured ≡ measured) }
     {
@@ -82,17 +84,17 @@ impl<'a> PreparedResult<'a> {
         })
     }
 
-    /// A result that is also written under the name at a place of the command line.
+    /// A result that is written under the name at a place of the command line, with a line that is printed.
     pub fn written(
         alloc: Global,
         place: u32,
         name: &'a str,
         bytes: Vec<u8>,
-        text: Vec<u8>,
+        line: Vec<u8>,
         measured: Option<MeasuredEnd>,
     ) -> Result<PreparedResult<'a>, AllocError>
         ensures outputs { IfOk result (λ prepared. ArePrepared (named place name.now ∷ []) (bytes.items ∷ []) prepared.outputs.items) }
-        ensures text { IfOk result (λ prepared. prepared.text ≡ text) }
+        ensures text { IfOk result (λ prepared. text_of prepared.text ≡ line.items) }
         ensures print_fault { IfOk result (λ prepared. IsDiagnosticOf (command_fault.Write 0) prepared.print_fault) }
         ensures measured { IfOk result (λ prepared. prepared.measured ≡ measured) }
     {
@@ -101,7 +103,7 @@ impl<'a> PreparedResult<'a> {
         let outputs = vec![in alloc; output]?;
         Ok(PreparedResult {
             outputs,
-            text,
+            text: Text::plain(line),
             print_fault,
             measured,
             chosen: None,
@@ -113,12 +115,12 @@ impl<'a> PreparedResult<'a> {
         alloc: Global,
         first: Output<'a>,
         second: Output<'a>,
-        text: Vec<u8>,
+        text: Text<'a>,
         measured: Option<MeasuredEnd>,
         chosen: Option<ChosenPlacement>,
     ) -> Result<PreparedResult<'a>, AllocError>
         ensures outputs { IfOk result (λ prepared. prepared.outputs.items ≡ first.entry ∷ second.entry ∷ []) }
-        ensures text { IfOk result (λ prepared. prepared.text ≡ text) }
+        ensures text { IfOk result (λ prepared. text_of prepared.text ≡ text_of text.entry) }
         ensures print_fault { IfOk result (λ prepared. IsDiagnosticOf (command_fault.Write 0) prepared.print_fault) }
         ensures measured { IfOk result (λ prepared. prepared.measured ≡ measured) }
     {
@@ -148,7 +150,7 @@ pub fn deliver<S: Shelf, K: Sink>(
         (K.view out.old) (K.view out.new)) }
 {
     match write_all(prepared.outputs, shelf) {
-        Ok(()) => match put_piece(out, prepared.text.as_slice()) {
+        Ok(()) => match put_text(out, &prepared.text) {
             Ok(()) => Ok(()),
             Err(_) => Err(prepared.print_fault),
         },

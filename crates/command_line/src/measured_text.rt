@@ -1,9 +1,10 @@
+use printed_lines::Text;
 use relinking::MeasuredEnd;
 
 /// What a command that measures a program prints, before it is printed.
 #[derive(Drop)]
-pub struct MeasuredText {
-    pub text: Vec<u8>,
+pub struct MeasuredText<'a> {
+    pub text: Text<'a>,
     /// How the measured run ended.
     pub end: MeasuredEnd,
 }

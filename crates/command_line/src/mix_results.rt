@@ -8,6 +8,7 @@ use crate::input_texts::InputTexts;
 use crate::mix_file::mix_file;
 use crate::mix_inputs::{ListedTexts, weighted_texts};
 use command_language::{CommandFault, read_mix};
+use printed_lines::Text;
 use shelf_io::Progress;
 use std::alloc::Global;
 
@@ -16,7 +17,7 @@ pub fn prepare_mix<'a>(
     alloc: Global,
     out: &'a str,
     cert: &'a str,
-    inputs: &InputTexts<'_>,
+    inputs: &InputTexts<'a>,
     progress: &dyn Progress,
 ) -> Result<PreparedResult<'a>, CommandFault>
     requires texts { length inputs.now.texts.now ≡ 3 }
@@ -44,7 +45,7 @@ fn mixed_result<'a>(
     alloc: Global,
     out: &'a str,
     cert: &'a str,
-    texts: &[Vec<u8>],
+    texts: &'a [Vec<u8>],
     listed: &ListedTexts<'_>,
     progress: &dyn Progress,
 ) -> Result<PreparedResult<'a>, CommandFault>
@@ -110,7 +111,7 @@ fn checked_result<'a>(
     let inputs = weighted_texts(alloc, &listed.lines, listed.texts)?;
     match check_mix_file(alloc, &texts[0], &texts[1], &inputs, &texts[3], progress) {
         Ok(checked) => {
-            let text = checked.report.into_bytes();
+            let text = Text::plain(checked.report.into_bytes());
             let chosen = Some(checked.chosen);
             Ok(PreparedResult::printed(alloc, text, None, chosen)?)
         }

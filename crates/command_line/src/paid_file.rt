@@ -3,7 +3,7 @@ ghost use Rattle.elf_reader.specs.{File.{segments_of}, Loadable.{AreLoadable}};
 ghost use Rattle.board_config.specs.Board.{IsLawful, mapped_ranges};
 ghost use Rattle.flat_machine.specs.Start.{start_of};
 ghost use Rattle.placement_programme.specs.{Programme.{IsFeasible}, Views.{plain_programme, plain_choice}};
-ghost use Rattle.printed_lines.specs.Endings.{IsAddressFault};
+ghost use Rattle.printed_lines.specs.{Endings.{IsAddressFault}, Texts.{text_of}};
 ghost use Rattle.relink_core.specs.Choices.{IsAnalysisOf};
 ghost use Rattle.paid_energy.specs.Laws as walked;
 ghost use Rattle.command_line.specs.{Analysed.{IsOpened}, Measured.{MeasuresTo}, PaidFile.{PaysTo, RejectsPaid, CountsFor, WhereExited, RunsMade, TellsRun, MakesLines, RejectsMade, modelled_text, paid_text}};
@@ -20,7 +20,7 @@ use object_machine::Outcome;
 use paged_store::PageStore;
 use paid_energy::{PaidRun, inward, paid, results_pay};
 use placement_programme::{Choice, energy};
-use printed_lines::ending_line;
+use printed_lines::{Text, ending_line};
 use relink_core::realise;
 use relinking::{MeasuredProgramme, programme_of_run};
 use shelf_io::Progress;
@@ -31,15 +31,15 @@ use std::alloc::{AllocError, Global};
 ///
 /// The error is that of `check`, or behind these the first fault of the file that was made. `Memory` comes only where no memory
 /// was left.
-pub fn paid_file(
+pub fn paid_file<'a>(
     alloc: Global,
     file: &[u8],
     board: &[u8],
     input: &[u8],
     cert: &[u8],
     progress: &dyn Progress,
-) -> Result<MeasuredText, CommandFault>
-    ensures ok { IfOk result (λ made. PaysTo file.now board.now input.now cert.now made.text.items) }
+) -> Result<MeasuredText<'a>, CommandFault>
+    ensures ok { IfOk result (λ made. PaysTo file.now board.now input.now cert.now (text_of made.text)) }
     ensures end { IfOk result (λ made. MeasuresTo file.now board.now input.now made.end) }
     ensures err { IfErr result (RejectsPaid board.now file.now input.now cert.now) }
 {
@@ -47,7 +47,7 @@ pub fn paid_file(
     let measured = programme_of_run(alloc, &opened.analysis, &opened.board, input, progress)?;
     match choice_lines(alloc, &opened, &measured, input, cert) {
         Ok(lines) => {
-            let text = lines.into_bytes();
+            let text = Text::plain(lines.into_bytes());
             let end = measured.end;
             Ok(MeasuredText { text, end })
         }

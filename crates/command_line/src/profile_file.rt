@@ -1,4 +1,5 @@
 ghost use Rattle.std.specs.Prelude.{IfOk, IfErr};
+ghost use Rattle.printed_lines.specs.Texts.{text_of};
 ghost use Rattle.command_line.specs.{ProgramRun.{RejectsProfiled}, ProfileFile.{ProfilesTo}, Measured.{MeasuresTo}};
 
 use crate::measured_text::MeasuredText;
@@ -13,14 +14,14 @@ use std::alloc::Global;
 ///
 /// The error is the first fault of the board's text, of the file, of where it lies, of its code, of its regions, or the address fault
 /// of the run. `Memory` comes only where no memory was left.
-pub fn profile_file(
+pub fn profile_file<'a>(
     alloc: Global,
-    file: &[u8],
+    file: &'a [u8],
     board: &[u8],
     input: &[u8],
     progress: &dyn Progress,
-) -> Result<MeasuredText, CommandFault>
-    ensures ok { IfOk result (λ made. ProfilesTo file.now board.now input.now made.text.items) }
+) -> Result<MeasuredText<'a>, CommandFault>
+    ensures ok { IfOk result (λ made. ProfilesTo file.now board.now input.now (text_of made.text)) }
     ensures end { IfOk result (λ made. MeasuresTo file.now board.now input.now made.end) }
     ensures err { IfErr result (RejectsProfiled board.now file.now input.now) }
 {

@@ -15,6 +15,7 @@ use crate::run_file::run_file;
 use crate::show_file::show_file;
 use crate::trace_file::trace_file;
 use command_language::{Command, CommandFault};
+use printed_lines::Text;
 use shelf_io::Progress;
 use std::alloc::{AllocError, Global};
 use workload_gen::workload;
@@ -23,7 +24,7 @@ use workload_gen::workload;
 pub fn prepare_result<'a>(
     alloc: Global,
     command: &Command<'a>,
-    inputs: &InputTexts<'_>,
+    inputs: &InputTexts<'a>,
     progress: &dyn Progress,
 ) -> Result<PreparedResult<'a>, CommandFault>
     requires numbers { HasNumbers (plain_command command.now) }
@@ -115,7 +116,7 @@ fn prepare_relink<'a>(
     alloc: Global,
     out: &'a str,
     cert: &'a str,
-    texts: &[Vec<u8>],
+    texts: &'a [Vec<u8>],
     progress: &dyn Progress,
 ) -> Result<PreparedResult<'a>, CommandFault>
     requires { length texts.now ≡ 3 }
@@ -138,7 +139,7 @@ fn prepare_relink<'a>(
 
 fn prepare_profile<'a>(
     alloc: Global,
-    texts: &[Vec<u8>],
+    texts: &'a [Vec<u8>],
     progress: &dyn Progress,
 ) -> Result<PreparedResult<'a>, CommandFault>
     requires { length texts.now ≡ 3 }
@@ -161,7 +162,7 @@ fn prepare_compare<'a>(alloc: Global, texts: &[Vec<u8>]) -> Result<PreparedResul
         → RejectsInputs (compare_command f r b i) (contents texts.now) fault) }
 {
     match compare_files(alloc, &texts[0], &texts[1], &texts[2], &texts[3]) {
-        Ok(text) => Ok(PreparedResult::printed(alloc, text, None, None)?),
+        Ok(text) => Ok(PreparedResult::printed(alloc, Text::plain(text), None, None)?),
         Err(fault) => Err(fault),
     }
 }
@@ -179,7 +180,7 @@ fn prepare_check<'a>(
 {
     match check_file(alloc, &texts[0], &texts[1], &texts[2], &texts[3], progress) {
         Ok(made) => {
-            let text = made.report.into_bytes();
+            let text = Text::plain(made.report.into_bytes());
             let chosen = Some(made.chosen);
             Ok(PreparedResult::printed(alloc, text, Some(made.end), chosen)?)
         }
@@ -226,7 +227,7 @@ fn prepare_trace<'a>(
     }
 }
 
-fn prepare_show<'a>(alloc: Global, texts: &[Vec<u8>]) -> Result<PreparedResult<'a>, CommandFault>
+fn prepare_show<'a>(alloc: Global, texts: &'a [Vec<u8>]) -> Result<PreparedResult<'a>, CommandFault>
     requires { length texts.now ≡ 2 }
     ensures ok { IfOk result (λ prepared. (f b : List ℕ)
         → IsPreparedFor (show_command f b) (contents texts.now) prepared) }
@@ -294,8 +295,9 @@ fn prepare_hex_check<'a>(
 {
     match check_hex(alloc, &texts[0], &texts[1]) {
         Ok(()) => {
-            let text = String::from_str(alloc, "same\n")?;
-            Ok(PreparedResult::printed(alloc, text.into_bytes(), None, None)?)
+            let line = String::from_str(alloc, "same\n")?;
+            let text = Text::plain(line.into_bytes());
+            Ok(PreparedResult::printed(alloc, text, None, None)?)
         }
         Err(fault) => Err(fault),
     }

@@ -1,17 +1,18 @@
 ghost use Rattle.std.specs.Prelude.{IfOk, IfErr};
+ghost use Rattle.printed_lines.specs.Texts.{text_of};
 ghost use Rattle.command_line.specs.{Analysed.{RejectsAnalysed}, ShowFile.{ShowsTo}};
 
 use crate::opening::open;
 use command_language::CommandFault;
-use printed_lines::show_lines;
+use printed_lines::{Text, show_lines};
 use std::alloc::Global;
 
 /// Tells in lines what of the program of a file may move on a board, and the regions of its functions.
 ///
 /// The error is the first fault of the board's text, of the file, of where it lies, of its code, or of its regions.
 /// `Memory` comes only where no memory was left.
-pub fn show_file(alloc: Global, file: &[u8], board: &[u8]) -> Result<Vec<u8>, CommandFault>
-    ensures ok { IfOk result (λ text. ShowsTo file.now board.now text.items) }
+pub fn show_file<'a>(alloc: Global, file: &'a [u8], board: &[u8]) -> Result<Text<'a>, CommandFault>
+    ensures ok { IfOk result (λ text. ShowsTo file.now board.now (text_of text)) }
     ensures err { IfErr result (RejectsAnalysed board.now file.now) }
 {
     let opened = open(alloc, file, board)?;

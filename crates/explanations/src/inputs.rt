@@ -17,7 +17,7 @@ pub(crate) fn inputs_of<'a>(
 ) -> Option<Inputs<'a>> {
     let file = text_of(texts, command.file)?;
     let (status, end, goes_on) = match made {
-        Ok(it) => (0, end_of(it), it.text.as_slice() == SAME_AND_RUNNING),
+        Ok(it) => (0, end_of(it), it.text.rest.as_slice() == SAME_AND_RUNNING),
         Err(fault) => (fault.status(), None, false),
     };
     let (moved, added) = match written_at(command, made, command.result) {

@@ -9,6 +9,7 @@ mod profiles;
 mod reports;
 mod shown;
 mod taken;
+mod text;
 
 pub use endings::ending_line;
 pub use parts::{address_text, symbol_name};
@@ -16,3 +17,4 @@ pub use profiles::profile_lines;
 pub use reports::choice_report;
 pub use shown::show_lines;
 pub use taken::{TakenItem, push_taken_lines};
+pub use text::{NamedPart, Text};

@@ -1,8 +1,9 @@
 ghost use Rattle.std.specs.Prelude.{◌≡◌, ◌++◌, IfOk, OnOk, string_bytes};
 ghost use Rattle.elf_reader.specs.File.{plain_view};
 ghost use Rattle.loaded_file.specs.Records.{symbol_at};
-ghost use Rattle.printed_lines.specs.ProfileLines.{address_text, named_line};
+ghost use Rattle.printed_lines.specs.{ProfileLines.{address_text, named_line}, Texts.{text_of}};
 
+use crate::text::Text;
 use elf_reader::ElfView;
 use std::alloc::{AllocError, Global};
 
@@ -15,12 +16,16 @@ pub fn address_text(alloc: Global, address: u32) -> Result<String, AllocError>
 }
 
 /// Adds a line of a beginning and a name.
-pub(crate) fn push_named(text: &mut Vec<u8>, head: &[u8], name: &[u8]) -> Result<(), AllocError>
-    ensures { OnOk result (text.new.items ≡ text.old.items ++ named_line head.now name.now) }
+pub(crate) fn push_named<'a>(
+    text: &mut Text<'a>,
+    head: &[u8],
+    name: &'a [u8],
+) -> Result<(), AllocError>
+    ensures { OnOk result (text_of text.new ≡ text_of text.old ++ named_line head.now name.now) }
 {
-    text.extend_from_slice(head)?;
-    text.extend_from_slice(name)?;
-    text.push(b'\n')?;
+    text.push(head)?;
+    text.push_name(name)?;
+    text.push(b"\n")?;
     Ok(())
 }
 

@@ -2,8 +2,10 @@ ghost use Rattle.std.specs.Prelude.{◌≡◌, ◌++◌, OnOk, IfOk, string_byte
 ghost use Rattle.std.specs.List.{All};
 ghost use Rattle.elf_reader.specs.File.{plain_view};
 ghost use Rattle.printed_lines.specs.TakenLines.{standing_text, taken_head, object_named, label_text, taken_line, taken_lines, IsListedObject, IsPairName, IsListed};
+ghost use Rattle.printed_lines.specs.Texts.{text_of};
 
-use crate::parts::{address_text, push_named, symbol_name};
+use crate::parts::{address_text, symbol_name};
+use crate::text::Text;
 use elf_reader::ElfView;
 use object_graph::Graph;
 use placement_programme::VarName;
@@ -24,15 +26,15 @@ pub struct TakenItem {
 
 /// Adds a line for each item, in order: in which regions it stands in the scratchpad, its place, its size in bytes, and the
 /// name of the object, or the home of the piece of code. It fails only where no memory was left.
-pub fn push_taken_lines(
+pub fn push_taken_lines<'a>(
     alloc: Global,
-    text: &mut Vec<u8>,
-    view: &ElfView<'_>,
+    text: &mut Text<'a>,
+    view: &ElfView<'a>,
     graph: &Graph,
     items: &[TakenItem],
 ) -> Result<(), AllocError>
     requires { All (IsListed graph.now.objects.items) items.now }
-    ensures { OnOk result (text.new.items ≡ text.old.items ++ taken_lines (plain_view view.now) graph.now.objects.items items.now) }
+    ensures { OnOk result (text_of text.new ≡ text_of text.old ++ taken_lines (plain_view view.now) graph.now.objects.items items.now) }
 {
     for k in 0..items.len() {
         push_taken(alloc, text, view, graph, items[k])?;
@@ -41,20 +43,21 @@ pub fn push_taken_lines(
 }
 
 /// Adds the line of an item.
-fn push_taken(
+fn push_taken<'a>(
     alloc: Global,
-    text: &mut Vec<u8>,
-    view: &ElfView<'_>,
+    text: &mut Text<'a>,
+    view: &ElfView<'a>,
     graph: &Graph,
     item: TakenItem,
 ) -> Result<(), AllocError>
     requires { IsListed graph.now.objects.items item }
-    ensures { OnOk result (text.new.items ≡ text.old.items ++ taken_line (plain_view view.now) graph.now.objects.items item) }
+    ensures { OnOk result (text_of text.new ≡ text_of text.old ++ taken_line (plain_view view.now) graph.now.objects.items item) }
 {
     let standing = standing_text(alloc, item.name)?;
     let head = taken_head(alloc, &standing, item.place, item.bytes)?;
-    let label = label_text(alloc, view, graph, item.home, object_named(item.name))?;
-    push_named(text, head.as_bytes(), &label)
+    text.push(head.as_bytes())?;
+    push_label(alloc, text, view, graph, item)?;
+    text.push(b"\n")
 }
 
 /// In which regions an item stands in the scratchpad, and whether it is data or code.
@@ -97,19 +100,19 @@ fn object_named(name: VarName) -> Option<u32>
     }
 }
 
-/// The name of an object, or where there is none the address of a home.
-fn label_text(
+/// Adds the name of an item's object, or where it is code the address of its home.
+fn push_label<'a>(
     alloc: Global,
-    view: &ElfView<'_>,
+    text: &mut Text<'a>,
+    view: &ElfView<'a>,
     graph: &Graph,
-    home: u32,
-    object: Option<u32>,
-) -> Result<Vec<u8>, AllocError>
-    requires { IsListedObject graph.now.objects.items object }
-    ensures { IfOk result (λ label. label.items ≡ label_text (plain_view view.now) graph.now.objects.items home object) }
+    item: TakenItem,
+) -> Result<(), AllocError>
+    requires { IsListedObject graph.now.objects.items (object_named item.name) }
+    ensures { OnOk result (text_of text.new ≡ text_of text.old ++ label_text (plain_view view.now) graph.now.objects.items item.home (object_named item.name)) }
 {
-    match object {
-        Some(object) => symbol_name(view, graph.objects[object as usize].name).to_vec(alloc),
-        None => Ok(address_text(alloc, home)?.into_bytes()),
+    match object_named(item.name) {
+        Some(object) => text.push_name(symbol_name(view, graph.objects[object as usize].name)),
+        None => text.push(address_text(alloc, item.home)?.as_bytes()),
     }
 }

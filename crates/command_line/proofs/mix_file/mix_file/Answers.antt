@@ -10,6 +10,7 @@ use Rattle.relinking.proofs.Analysed.{findings}
 use Rattle.command_line.proofs.Analysing.{opened_view}
 use Rattle.relinking.proofs.Energies.{mixed_within}
 use Rattle.command_line.proofs.MixedRuns.{analysed_rejected, runs_rejected}
+use Rattle.printed_lines.specs.Texts.{text_of}
 use Rattle.command_line.proofs.mix_file.mix_file.Goals as goal
 
 pub returns-in_err-opened-clause-err : goal.returns-in_err-opened-clause-err
@@ -55,6 +56,6 @@ returns-clause-ok g c =
       choice = choice;
       says_optimal = is_optimal relinked.found.status;
       result = made.made.result;
-      is_report = subst (λ (v : PlainView). IsRelinkReport v o.board a.graph a.code p choice (is_optimal relinked.found.status) c.in_ok-report.report.items)
+      is_report = subst (λ (v : PlainView). IsRelinkReport v o.board a.graph a.code p choice (is_optimal relinked.found.status) (text_of c.in_ok-report.report))
           (opened_view c.args.board.now file o is) c.in_ok-report.ensures;
     }

@@ -32,7 +32,7 @@ returns-in-Ok-clause-ok g c f b m k =
     let made = c.in_ok-printed-in-Ok.ensures in
     record {
       outputs = [];
-      yields = rw (made.text, c.into_bytes-text.ensures.value) (checks_mix f b m k file board mix cert listed refl (ap (λ ts. ts ++ listed) (sym texts)) refl c.requires.listed.unbroken is);
+      yields = rw (made.text, c.plain-text.ensures, c.into_bytes.ensures.value) (checks_mix f b m k file board mix cert listed refl (ap (λ ts. ts ++ listed) (sym texts)) refl c.requires.listed.unbroken is);
       prepared_outputs = made.outputs;
       print_fault = made.print_fault;
       measured = measures_none refl made.measured;

@@ -10,6 +10,7 @@ use Rattle.command_line.specs.Meaning.{RejectsInputs, mixes}
 use Rattle.command_line.specs.MixFile.{inputs_of, MixesTo, RejectsRuns}
 use Rattle.command_line.specs.Reading.{contents}
 use Rattle.command_line.proofs.MixResults.{three_with_third, inputs_listed, some_listed, mix_rejected}
+use Rattle.printed_lines.specs.Texts.{text_of}
 use Rattle.command_line.proofs.mix_results.mixed_result.Goals as goal
 
 pub mix_file-requires : goal.mix_file-requires
@@ -29,7 +30,7 @@ returns-in-Ok-clause-ok g c f b m =
     let board = c.deref-3.result.now in
     let texts = three_with_third c.args.texts.now c.index-texts-0.result c.index-texts-1.result file board c.requires.texts c.index-texts-0.is c.index-texts-1.is c.deref-2.ensures.value c.deref-3.ensures.value in
     let mixed = c.in-Ok.mixed in
-    let is = subst (λ (ps : List WeightedInput). MixesTo file board ps mixed.certificate.items mixed.file.items mixed.report.items) inputs c.in-Ok.ensures.ok in
+    let is = subst (λ (ps : List WeightedInput). MixesTo file board ps mixed.certificate.items mixed.file.items (text_of mixed.report)) inputs c.in-Ok.ensures.ok in
     let made = c.in_ok-written_twice-in-Ok.ensures in
     record {
       outputs = mixed.certificate.items ∷ mixed.file.items ∷ [];

@@ -29,7 +29,7 @@ choice_lines-requires-clause-opened g c = (c.args.board.now, (c.args.file.now, c
 
 pub returns-in-Ok-clause-ok : goal.returns-in-Ok-clause-ok
 returns-in-Ok-clause-ok g c =
-    rw c.into_bytes-text.ensures.value (c.in-Ok.ensures.ok c.args.board.now c.args.file.now c.in_ok-opened.ensures.ok)
+    rw (c.plain-text.ensures, c.into_bytes.ensures.value) (c.in-Ok.ensures.ok c.args.board.now c.args.file.now c.in_ok-opened.ensures.ok)
 
 pub returns-in-Ok-clause-end : goal.returns-in-Ok-clause-end
 returns-in-Ok-clause-end g c =

@@ -9,6 +9,7 @@ use Rattle.relinking.proofs.Analysed.{findings}
 use Rattle.relinking.proofs.Energies.{within_base}
 use Rattle.command_line.proofs.Analysing.{opened_view, profiled_rejected}
 use Rattle.command_line.proofs.Profiling.{counts_rejected, ends_in_file}
+use Rattle.printed_lines.specs.Texts.{text_of}
 use Rattle.command_line.proofs.relink_file.relink_file.Goals as goal
 
 pub returns-in_err-opened-clause-err : goal.returns-in_err-opened-clause-err
@@ -54,7 +55,7 @@ returns-clause-ok g c =
       choice = choice;
       says_optimal = is_optimal relinked.found.status;
       result = by.made.result;
-      is_report = subst (λ (v : PlainView). IsRelinkReport v o.board a.graph a.code p choice (is_optimal relinked.found.status) c.in_ok-report.report.items)
+      is_report = subst (λ (v : PlainView). IsRelinkReport v o.board a.graph a.code p choice (is_optimal relinked.found.status) (text_of c.in_ok-report.report))
           (opened_view c.args.board.now file o is) c.in_ok-report.ensures;
     }
 

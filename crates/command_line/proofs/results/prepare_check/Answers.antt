@@ -13,7 +13,7 @@ returns-in_ok-printed-in-Ok-clause-ok g c f b i k =
     let made = c.in_ok-printed-in-Ok.ensures in
     record {
       outputs = [];
-      yields = rw (made.text, c.into_bytes-text.ensures.value) (checks f b i k _ _ _ _ refl (sym are) refl c.in-Ok.ensures.ok);
+      yields = rw (made.text, c.plain-text.ensures, c.into_bytes.ensures.value) (checks f b i k _ _ _ _ refl (sym are) refl c.in-Ok.ensures.ok);
       prepared_outputs = made.outputs;
       print_fault = made.print_fault;
       measured = check_ends f b i k _ _ _ _ _ refl (sym are) made.measured c.in-Ok.ensures.end;

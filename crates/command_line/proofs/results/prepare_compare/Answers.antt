@@ -12,7 +12,7 @@ returns-in_ok-printed-in-Ok-clause-ok c f r b i =
     let made = c.in_ok-printed-in-Ok.ensures in
     record {
       outputs = [];
-      yields = rw made.text (compares f r b i _ _ _ _ refl (sym are) refl c.in-Ok.ensures.ok);
+      yields = rw (made.text, c.plain.ensures) (compares f r b i _ _ _ _ refl (sym are) refl c.in-Ok.ensures.ok);
       prepared_outputs = made.outputs;
       print_fault = made.print_fault;
       measured = measures_none refl made.measured;

@@ -12,7 +12,7 @@ returns-in_ok-printed-in-Ok-clause-ok c f h =
     let checked = c.in-Ok.ensures.ok in
     record {
       outputs = [];
-      yields = rw (c.in_ok-printed-in-Ok.ensures.text, c.into_bytes.ensures.value) (agrees f h _ _ refl (sym are) checked.0 checked.1 refl c.in_ok-text-in-Ok.ensures.ok);
+      yields = rw (c.in_ok-printed-in-Ok.ensures.text, c.plain-text.ensures, c.into_bytes.ensures.value) (agrees f h _ _ refl (sym are) checked.0 checked.1 refl c.in_ok-line-in-Ok.ensures.ok);
       prepared_outputs = c.in_ok-printed-in-Ok.ensures.outputs;
       print_fault = c.in_ok-printed-in-Ok.ensures.print_fault;
       measured = measures_none refl c.in_ok-printed-in-Ok.ensures.measured;

@@ -4,6 +4,7 @@ use Rattle.code_blocks.specs.Numbers.{starts_of}
 use Rattle.printed_lines.specs.ShowLines.{show_text}
 use Rattle.relinking.proofs.Analysed.{findings}
 use Rattle.command_line.proofs.Analysing.{opened_view}
+use Rattle.printed_lines.specs.Texts.{text_of}
 use Rattle.command_line.proofs.show_file.show_file.Goals as goal
 
 pub show_lines-requires-clause-ascending : goal.show_lines-requires-clause-ascending
@@ -17,7 +18,7 @@ returns-clause-ok c =
     let opened = c.in_ok-opened.opened in
     let is = c.in_ok-opened.ensures.ok in
     let a = opened.analysis in
-    let text = c.in_ok-show_lines.field-0.items in
+    let text = text_of c.in_ok-show_lines.field-0 in
     record {
       board = opened.board;
       accepts = is.accepts;

@@ -3,6 +3,7 @@ use Rattle.elf_reader.specs.File.{plain_view}
 use Rattle.profile_runner.specs.Counts.{plain_rows}
 use Rattle.printed_lines.specs.ProfileLines.{object_line}
 use Rattle.printed_lines.proofs.Lines.{lines_more, object_line_is}
+use Rattle.printed_lines.specs.Texts.{text_of}
 use Rattle.printed_lines.proofs.profiles.push_objects.Goals as goal
 
 pub loop-k-preserved : goal.loop-k-preserved
@@ -16,5 +17,5 @@ loop-k-preserved c =
     let line = object_line_is v objects reads writes k c.index.result.now c.symbol_name-name.result.now c.index-in-loop-k.result.now c.index-in-loop-k-2.result.now c.total-reads.result c.total-writes.result
     within c.requires.reads c.requires.writes c.index.ensures c.symbol_name-name.ensures c.index-in-loop-k.ensures c.index-in-loop-k-2.ensures
     (c.total-reads.ensures ∙ ap sum c.deref.ensures.value) (c.total-writes.ensures ∙ ap sum c.deref-in-loop-k.ensures.value) in
-    lines_more (object_line v objects (plain_rows reads) (plain_rows writes)) c.args.text.now.items c.loop-k.text.items c.push_object.new.text.items k c.loop-k.invariant
-    (c.in_ok-push_object.ensures ∙ ap (λ piece. c.loop-k.text.items ++ piece) line)
+    lines_more (object_line v objects (plain_rows reads) (plain_rows writes)) (text_of c.args.text.now) (text_of c.loop-k.text) (text_of c.push_object.new.text) k c.loop-k.invariant
+    (c.in_ok-push_object.ensures ∙ ap (λ piece. text_of c.loop-k.text ++ piece) line)

@@ -4,6 +4,7 @@ use Rattle.elf_reader.specs.File.{plain_view}
 use Rattle.printed_lines.specs.declared.taken.TakenItem.{TakenItem}
 use Rattle.printed_lines.specs.TakenLines.{taken_line, taken_at, no_item}
 use Rattle.printed_lines.proofs.Lines.{lines_more}
+use Rattle.printed_lines.specs.Texts.{text_of}
 use Rattle.printed_lines.proofs.taken.push_taken_lines.Goals as goal
 
 pub loop-k-preserved : goal.loop-k-preserved
@@ -13,5 +14,5 @@ loop-k-preserved c =
     let items = c.args.items.now in
     let k = c.loop-k.k in
     let within : k < length items = omega (arith, c.loop-k-test.true) in
-    lines_more (taken_at v objects items) c.args.text.now.items c.loop-k.text.items c.push_taken.new.text.items k c.loop-k.invariant
-    (c.in_ok-push_taken.ensures ∙ ap (λ (item : TakenItem). c.loop-k.text.items ++ taken_line v objects item) (get_or_default items k _ no_item within))
+    lines_more (taken_at v objects items) (text_of c.args.text.now) (text_of c.loop-k.text) (text_of c.push_taken.new.text) k c.loop-k.invariant
+    (c.in_ok-push_taken.ensures ∙ ap (λ (item : TakenItem). text_of c.loop-k.text ++ taken_line v objects item) (get_or_default items k _ no_item within))

@@ -8,6 +8,7 @@ use Rattle.printed_lines.specs.ReportText.{IsReport}
 use Rattle.printed_lines.specs.TakenLines.{taken_lines, IsListed}
 use Rattle.printed_lines.specs.declared.taken.TakenItem.{TakenItem}
 use Rattle.relinking.proofs.ItemsTold.{all_listed, all_told}
+use Rattle.printed_lines.specs.Texts.{text_of}
 use Rattle.relinking.proofs.reporting.relink_report.Goals as goal
 
 pub choice_report-requires-clause-feasible : goal.choice_report-requires-clause-feasible
@@ -43,10 +44,10 @@ returns c =
     let r = c.args.relinked.now in
     let p = plain_programme r.programme in
     let choice = plain_choice r.found.choice in
-    let first = c.into_bytes-report.result.items in
+    let first = text_of c.plain-report.result in
     record {
       first = first;
-      is_first = rw c.into_bytes-report.ensures.value (subst (λ (b : Bool). IsReport p board.nodes choice b (string_bytes c.in_ok-first.first)) c.is_optimal-optimal.ensures c.in_ok-first.ensures);
+      is_first = rw (c.plain-report.ensures, c.into_bytes.ensures.value) (subst (λ (b : Bool). IsReport p board.nodes choice b (string_bytes c.in_ok-first.first)) c.is_optimal-optimal.ensures c.in_ok-first.ensures);
       report_is = c.in_ok-push_taken_lines.ensures
           ∙ ap (λ (items : List TakenItem). first ++ taken_lines v a.graph.objects.items items) (c.deref.ensures.value ∙ c.in_ok-items.ensures);
     }
