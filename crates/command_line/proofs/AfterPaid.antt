@@ -1,7 +1,6 @@
 -- OUT pays what is printed behind `after`, since it realises the choice, whose energy that is.
-use Rattle.std.proofs.Common.{◌≡◌, ℕ, pos, ◌+◌, ◌*◌, List, [], ◌∷◌, ◌++◌, length, All, Some, refl, sym, ◌∙◌, ap, subst}
+use Rattle.std.proofs.Common.{◌≡◌, ℕ, ◌+◌, ◌*◌, List, [], ◌∷◌, ◌++◌, length, All, refl, sym, ◌∙◌, ap, subst}
 use Rattle.std.specs.Prelude.{◌≢◌, Bool}
-use Rattle.std.specs.List.{sum_by}
 use Rattle.std.proofs.lemmas.List.Elements.{All-nil, All-cons, All-head, All-tail}
 use Rattle.std.proofs.lemmas.List.Sums.{sum_by-cons}
 use Rattle.elf_reader.specs.File.{view_in}
@@ -22,7 +21,6 @@ use Rattle.placement_candidates.specs.Whole.{taken_of as names_taken}
 use Rattle.result_laws.specs.HomeLaws.{program_in, source_start, file_start}
 use Rattle.relink_core.specs.Findings.{Findings}
 use Rattle.relink_core.specs.Placed.{taken_of, Realises}
-use Rattle.printed_lines.specs.ReportText.{report_text}
 use Rattle.printed_lines.specs.TakenLines.{taken_lines}
 use Rattle.relocator.specs.Placing.{chosen_slots}
 use Rattle.relinking.specs.TakenItems.{items_told}
@@ -33,7 +31,7 @@ use Rattle.paid_energy.specs.Inward.{inward_calls}
 use Rattle.paid_energy.specs.Laws.{enough_steps, IsPassed, PaysEnergy, ResultsPay}
 use Rattle.shelf_io.specs.Shelf.{ShelfView}
 use Rattle.shelf_io.specs.Sink.{SinkView}
-use Rattle.command_language.specs.Command.{PlainCommand, run_command, relink_command, profile_command, compare_command, check_command, mix_command, check_mix_command, gen_command, hex_command, hex_check_command, show_command, paid_command, trace_command, IsCommand, Named, named, writes}
+use Rattle.command_language.specs.Command.{PlainCommand, run_command, relink_command, profile_command, compare_command, check_command, mix_command, check_mix_command, gen_command, hex_command, hex_check_command, show_command, paid_command, trace_command, Named, named, writes}
 use Rattle.command_language.specs.Lines.{MixLine, mix_lines}
 use Rattle.command_line.specs.Analysed.{Accepts}
 use Rattle.command_line.specs.Delivery.{SetsAll}

@@ -1,13 +1,11 @@
 -- Where a command relinks a file, OUT does what FILE does.
 use Rattle.std.proofs.Common.{◌≡◌, inl, inr, ℕ, Bool, true, false, if◌then◌else◌, List, [], ◌∷◌, Option, Some, None, refl, sym, ◌∙◌, ap, subst}
-use Rattle.std.specs.Prelude.{IfSome}
 use Rattle.std.specs.Prelude.{codes}
 use Rattle.elf_reader.specs.File.{view_in}
 use Rattle.elf_reader.specs.Loadable.{AreBytes}
-use Rattle.board_config.specs.Board.{IsBoard, IsLawful}
+use Rattle.board_config.specs.Board.{IsBoard}
 use Rattle.board_config.specs.declared.board.Board.{Board}
 use Rattle.board_config.proofs.Lawful.{board_is_lawful}
-use Rattle.placement_programme.specs.Plain.{PlainProgramme, PlainChoice}
 use Rattle.object_machine.specs.declared.events.Outcome.{Outcome}
 use Rattle.object_machine.specs.declared.events.Outcome.TheVariants.{GoesOn, Exited, Trapped, AddressFault}
 use Rattle.object_machine.specs.Runs.{HasEnded}
@@ -15,13 +13,12 @@ use Rattle.result_laws.specs.Absolute.{IsAbsolute}
 use Rattle.relink_core.specs.Faults.{analyse_fault}
 use Rattle.relink_core.specs.Placed.{Taken, taken_of}
 use Rattle.relink_core.specs.Choices.{KeepsMeaning}
-use Rattle.compare_runner.specs.HeadlineLaws.{IsKept, KeptDoesWhatFileDoes}
-use Rattle.shelf_io.specs.Shelf.{ShelfView, SetsName}
+use Rattle.compare_runner.specs.HeadlineLaws.{KeptDoesWhatFileDoes}
+use Rattle.shelf_io.specs.Shelf.{ShelfView}
 use Rattle.shelf_io.specs.Sink.{SinkView}
 use Rattle.command_language.specs.Command.{PlainCommand, run_command, relink_command, profile_command, compare_command, check_command, mix_command, check_mix_command, gen_command, hex_command, hex_check_command, show_command, paid_command, trace_command, IsCommand, Named, named, writes}
 use Rattle.command_line.specs.Analysed.{Accepts}
 use Rattle.command_line.specs.Listing.{HoldsInputs}
-use Rattle.command_line.specs.Reading.{HoldsAll}
 use Rattle.command_line.specs.Delivery.{SetsAll}
 use Rattle.command_line.specs.Meaning.{Yields, runs, relinks, profiles, compares, checks, pays, traces, mixes, checks_mix, shows, generates, writes_hex, agrees}
 use Rattle.command_line.specs.Answers.{IsDone}

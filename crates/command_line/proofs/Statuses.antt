@@ -5,7 +5,7 @@ use Rattle.elf_reader.specs.Faults.{first_fault}
 use Rattle.elf_reader.specs.declared.fault.ElfFault.{ElfFault}
 use Rattle.elf_reader.specs.declared.fault.ElfFault.TheVariants as elf
 use Rattle.board_config.specs.Keys.{first_key}
-use Rattle.board_config.specs.Faults.{Fault, not_toml, missing, wrong_type, out_of_range, unknown_key, memory, plain_fault}
+use Rattle.board_config.specs.Faults.{Fault, not_toml, missing, wrong_type, out_of_range, unknown_key, memory}
 use Rattle.object_graph.specs.declared.fault.GraphFault.{GraphFault}
 use Rattle.object_graph.specs.declared.fault.GraphFault.TheVariants as graph
 use Rattle.code_blocks.specs.declared.fault.CodeFault.{CodeFault}
@@ -21,7 +21,7 @@ use Rattle.hex_image.specs.Reading.{hex_fault}
 use Rattle.hex_image.specs.declared.fault.HexFault.{HexFault}
 use Rattle.hex_image.specs.declared.fault.HexFault.TheVariants as hex
 use Rattle.command_language.specs.Command.{PlainCommand}
-use Rattle.command_language.specs.FaultLine.{Parts, board_parts, elf_parts, graph_parts, code_parts, analyse_parts, address_parts, source_parts, cert_parts, choice_parts, tree_parts, hex_parts, mix_parts, differs_parts, status_of, region_parts}
+use Rattle.command_language.specs.FaultLine.{Parts, board_parts, elf_parts, graph_parts, code_parts, analyse_parts, address_parts, source_parts, cert_parts, choice_parts, tree_parts, hex_parts, mix_parts, differs_parts, region_parts}
 use Rattle.compare_runner.specs.declared.comparing.Comparison.TheVariants.{Same, Differs, SourceFault}
 use Rattle.command_line.specs.Analysed.{ReportsAnalysed, of_board, of_analysis}
 use Rattle.command_line.specs.ProgramRun.{ReportsProfiled, of_run, of_none}
@@ -37,8 +37,6 @@ use Rattle.command_line.specs.MixFile.{ReportsRuns, ReportsMixed, of_list, of_ru
 use Rattle.command_line.specs.MixFile as mixed
 use Rattle.command_line.specs.ShowFile.{ReportsShown}
 use Rattle.command_line.specs.ShowFile as show
-use Rattle.command_language.specs.declared.faults.CommandFault.{CommandFault}
-use Rattle.command_language.specs.declared.faults.CommandFault.TheVariants as command_fault
 
 -- none of them is that of the words or of the outside
 abbrev pub IsOfInputs : Parts → Type 0
