@@ -2,7 +2,7 @@ ghost use Rattle.certificate_checker.specs.Rooms.{RoomFits};
 
 use anyhow::{Context, Result};
 use branch_bound::{Round, certify};
-use certificate_checker::{Room, Verdict, check_text, write_tree};
+use certificate_checker::{Certificate, Room, Verdict, check_text, write_tree};
 use num_traits::Num;
 use placement_programme::Programme;
 use std::alloc::Global;
@@ -41,14 +41,31 @@ pub(crate) fn tell_searched(
     ensures { RoomFits p.now room.new }
 {
     match certify(rt.alloc(), p, nodes)? {
-        Round::Certified(c) => {
-            let (on, take) = (c.choice.on, &c.choice.take);
-            let text = write_tree(rt.alloc(), &c)?;
-            let verdict = check_text(p, &text, room);
-            println!(rt; "{nodes} nodes: on {on} {take:?}, {verdict:?}")?;
+        Round::Certified(c) => tell_found(rt, nodes, &c, p, room),
+        Round::Unfinished(_) => {
+            println!(rt; "{nodes} nodes: nothing")?;
+            Ok(())
         }
-        Round::Unfinished(_) => println!(rt; "{nodes} nodes: nothing")?,
     }
+}
+
+/// What was found, and what a check says of its certificate's text.
+fn tell_found(
+    rt: &(impl Print + AllocGlobal),
+    nodes: u64,
+    c: &Certificate,
+    p: &Programme,
+    room: &mut Room,
+) -> Result<()>
+    requires { RoomFits p.now room.old }
+    ensures { RoomFits p.now room.new }
+{
+    let text = write_tree(rt.alloc(), c)?;
+    let verdict = check_text(p, &text, room);
+    println!(rt;
+        "{nodes} nodes: on {} {:?}, {verdict:?}",
+        c.choice.on, c.choice.take
+    )?;
     Ok(())
 }
 
