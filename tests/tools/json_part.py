@@ -22,6 +22,9 @@ TOOL = Path(__file__).resolve().parents[2] / "tools/json"
 NAMED = ("relink", "profile", "trace", "mix", "show")
 HEADER, SECTION, SYMBOL_TABLE, STRING_TABLE = 52, 40, 2, 3
 
+# The status of a command whose text standard output did not take whole.
+PRINT_FAILED = 3
+
 # The objects of the program that `gen 0 4` makes, by its report in relink.toml.
 GENERATED = [(b"t0", 1, 0, 192), (b"t1", 1, 0, 64), (b"t2", 1, 0, 192), (b"t3", 1, 0, 192)]
 
@@ -213,6 +216,9 @@ def texts_of(call: Call) -> list[bytes]:
 def try_case(tally: Tally, call: Call, text: bytes, file: bytes | None) -> None:
     if text == b"" and call.status != 0:
         return  # standard output failed
+    if call.status == PRINT_FAILED and not text.startswith(b"error "):
+        tally.note(is_refused(call.words[0], text, file), f"{call.case}: takes a text that is cut off")
+        return
     value = through_json(call.words[0], text, file)
     told = value.get("status", call.status) == call.status and value["command"] == call.words[0]
     tally.note(told and tool.text_of(value) == text, f"{call.case}: {text!r}")
