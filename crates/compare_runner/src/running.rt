@@ -22,7 +22,7 @@ pub(crate) fn run_source(source: &mut Source, n: u64) -> Result<u64, AllocError>
         if has_ended(source.outcome()) {
             return Ok(k);
         }
-        source.step()?;
+        source.step_in::<2>()?;
     }
     Ok(n)
 }

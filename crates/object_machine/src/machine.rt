@@ -114,7 +114,20 @@ impl Source {
         ensures step { IfOk result (λ event. (p : Program) → IsProgram p self.old → IsProgram p self.new × Step p (state_of p self.old) event (state_of p self.new)) }
         ensures err { OnErr result ((p : Program) → IsProgram p self.old → IsProgram p self.new × (state_of p self.new ≡ state_of p self.old)) }
     {
-        match self.step_seen() {
+        match self.step_in::<0>() {
+            Ok(event) => Ok(event),
+            Err(error) => Err(error),
+        }
+    }
+
+    /// Takes one step, as `step` does. What it does is large, so it is inlined only where nothing else calls it: a loop that
+    /// names a number of its own has a copy for itself.
+    #[inline(always)]
+    pub fn step_in<const LOOP: u8>(&mut self) -> Result<Event, AllocError>
+        ensures step { IfOk result (λ event. (p : Program) → IsProgram p self.old → IsProgram p self.new × Step p (state_of p self.old) event (state_of p self.new)) }
+        ensures err { OnErr result ((p : Program) → IsProgram p self.old → IsProgram p self.new × (state_of p self.new ≡ state_of p self.old)) }
+    {
+        match self.step_seen::<LOOP>() {
             Ok(event) => Ok(event),
             Err(error) => Err(error),
         }
@@ -123,7 +136,7 @@ impl Source {
     /// Takes one step, as the tables tell it.
     #[inline(always)]
     #[tactic(auto, using(crate::proofs::NamedLemmas::steps_by_name, crate::proofs::NamedLemmas::steps_still, crate::proofs::NamedLemmas::goes_still))]
-    fn step_seen(&mut self) -> Result<Event, AllocError>
+    fn step_seen<const LOOP: u8>(&mut self) -> Result<Event, AllocError>
         ensures step { IfOk result (λ event. StepsFrom self.old.outcome self.old event (seen_state self.new)) }
         ensures tables { self.new.tables ≡ self.old.tables }
         ensures err { OnErr result (seen_state self.new ≡ seen_state self.old) }
@@ -133,7 +146,7 @@ impl Source {
             return Ok(self.event(at, None));
         }
         let op = self.op();
-        match self.perform_named(op) {
+        match self.perform_named::<LOOP>(op) {
             Some(access) => Ok(Event {
                 at,
                 outcome: Outcome::GoesOn,

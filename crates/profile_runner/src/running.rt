@@ -202,7 +202,7 @@ fn take_unit(tally: &mut Tally, source: &mut Source) -> Result<(Option<u32>, boo
     requires { HasRoomToAccess tally.old.region (plain_rows tally.old.reads.items) (plain_rows tally.old.writes.items) }
     ensures { IfOk result (λ r. (p : Program) (starts : List ℕ) → IsProgram p source.old → IsStrictlyIncreasing starts → ((a : ℕ) → p.is_block a ≡ has starts a) → IsTaken starts p source.old source.new r.0 r.1 tally.old tally.new) }
 {
-    let event = source.step()?;
+    let event = source.step_in::<1>()?;
     // an ended machine told of no access, which is known before that is asked for
     if !is_going(&event.outcome) {
         tally.access(event.access);

@@ -26,7 +26,7 @@ impl Source {
 
     /// Performs the present unit by its name, if it has one and the machine goes on. Tells of its access.
     #[inline(always)]
-    pub(super) fn perform_named(&mut self, op: Op) -> Option<Option<Access>>
+    pub(super) fn perform_named<const LOOP: u8>(&mut self, op: Op) -> Option<Option<Access>>
         requires named { IsPresentBy self.old (instr_of op) }
         requires fits { FitsRead (instr_of op) }
         ensures { Tried self.old self.new result }

@@ -18,7 +18,7 @@ loop-k-preserved c p agrees =
     let step = c.in_ok-step.ensures.step p before.0 in
     let start = state_of p c.args.source.now in
     let here = state_of p c.loop-k.source in
-    let next = state_of p c.step.new.self in (
+    let next = state_of p c.step_in.new.self in (
       step.0,
       runs_more SourceState (Steps p) IsOver (one_run c.one_instruction.ensures p) start c.loop-k.k here next before.1
           (λ over. subst HasEnded (sym (c.outcome.ensures p) ∙ c.if-has_ended.ensures) over)

@@ -13,7 +13,7 @@ returns-then-not-is_going c p starts is ascending same =
       event = c.in_ok-event.event;
       step = step.1;
       accessed = c.access.ensures;
-      next_is = subst (λ goes. IsNext starts goes (state_of p c.step.new.self).pc None) (sym ended) refl;
+      next_is = subst (λ goes. IsNext starts goes (state_of p c.step_in.new.self).pc None) (sym ended) refl;
       inside = λ stay. cc;
       ended = λ off none. ended;
     }
