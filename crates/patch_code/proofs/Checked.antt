@@ -31,11 +31,12 @@ use Rattle.patch_code.specs.Told.{read_at, write_at, jobs_accesses}
 use Rattle.patch_code.specs.Switches.{FitsJob, HasRoutine, IsAtStub, StubWay, routine_bytes, CameTo, Switched, StubPasses, StubSwitches, switch_accesses}
 use Rattle.patch_code.proofs.Ways.{StandsStill, Passed, line_accesses, follow, straight, step_way, lui_follows, addi_follows, load_follows, passed_on, passed_as}
 use Rattle.patch_code.proofs.JobWays.{CanRun}
-use Rattle.patch_code.proofs.PartWays.{zero_where, FitsSome, FitsPart}
+use Rattle.patch_code.proofs.PartWays.{zero_where}
+use Rattle.patch_code.proofs.TestedParts.{IsSome, IsPart}
 use Rattle.patch_code.proofs.Control.{upper, word_fits, control_at, control_access, saved, saved_outside, saved_small, saved_holds, in_or, saved_some, Holds, holds_kept, word_outside, IsKnown, Saves, saves_do, Restores, restores_do}
 use Rattle.patch_code.proofs.Whole.{RoutineDone, routine_way}
 use Rattle.patch_code.proofs.StubWays.{in_stub, in_routine, join_own, recount_own}
-use Rattle.patch_code.proofs.SwitchJobs.{IsApart, IsSome, IsPart, jobs_have, all_are, jobs_spare, jobs_alike}
+use Rattle.patch_code.proofs.SwitchJobs.{IsApart, jobs_have, all_are, jobs_spare, jobs_alike}
 
 in_pieces : (base t r a switch : ℕ) → checking base t r a switch ≡ tests base t r ++ (Lui t (upper_half base) ∷ saves t saved_registers (base + 4) ++ (calls r (a + 52) switch ++ (Lui t (upper_half base) ∷ restores t saved_registers (base + 4))))
 unfolding checking
@@ -227,11 +228,11 @@ module _ (w : SwitchPlan (List CopyJob)) (lo size switch t r a : ℕ) (s : State
   abbrev region_fits : r < 4294967296
   region_fits = let small = is.small in omega (arith, small)
 
-  some_fits : (kept : Option (Kept (List CopyJob))) → IsSome (FitsJob base lo size s) kept → FitsSome s is.going switch bytes routine_ends first word r current_fits region_fits kept
+  some_fits : (kept : Option (Kept (List CopyJob))) → IsSome (FitsJob base lo size s) kept → IsSome (CanRun s is.going switch bytes routine_ends first) kept
   some_fits None fit = tt
   some_fits (Some k) fit = record { test = fit.test; few = fit.few; jobs = can_run k.jobs fit.jobs }
 
-  parts_fit : All (FitsPart s is.going switch bytes routine_ends first word r current_fits region_fits) (all_parts w)
+  parts_fit : All (IsPart (CanRun s is.going switch bytes routine_ends first)) (all_parts w)
   parts_fit k d below =
       let one = plan_fits k d below in
       record { test = one.test; few = one.few; jobs = can_run _ one.jobs; kept = some_fits _ one.kept }

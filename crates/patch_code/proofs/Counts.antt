@@ -3,7 +3,7 @@ use Rattle.std.proofs.Common.{◌≡◌, ◌⊎◌, inl, inr, ℕ, zero, suc, �
 use Rattle.std.specs.Prelude.{Option, Some, None, option_map, All}
 use Rattle.std.specs.List.{flat_map, sum_by}
 use Rattle.std.proofs.lemmas.Grind.{flat_map-append}
-use Rattle.std.proofs.lemmas.Bool.{cond_both, cases_eq, cases_lt}
+use Rattle.std.proofs.lemmas.Bool.{cond_both, cases_eq}
 use Rattle.std.proofs.lemmas.Bool.Decides.{nat_tests}
 use Rattle.std.proofs.lemmas.List.{append-nil, length-append}
 use Rattle.std.proofs.lemmas.List.Sums.{sum_by-cons, sum_by-append}
@@ -19,6 +19,18 @@ use Rattle.patch_code.proofs.JobWays.{jobs_run-append}
 use Rattle.patch_code.specs.Counts.{is_region, kept_unless, side_jobs, tests_run, twin_test_run, twin_run, span, spans, kept_words, first_words, SwitchRunsJobs, SwitchRunsWords, SwitchIsBounded, RoutineCount}
 
 -- ---- of the parts of one side at most one runs its jobs
+
+-- the number of a region is 0 or above the first `n`, or it is one of these
+by_region : (n r : ℕ) (P : Bool → Type 0) → ((r ≡ 0) ⊎ (n < r) → P false) → (1 ≤ r → r ≤ n → P true) → P (is_region n r)
+by_region n r P out within = by (is_region n r) refl
+  where
+    by : (b : Bool) → is_region n r ≡ b → P b
+    by true inside = within (grind (arith, nat_tests, inside)) (grind (arith, nat_tests, inside))
+    by false outside =
+        elim (cases_eq r 0) [
+          | inl none ↦ out (inl none)
+          | inr some ↦ out (inr (grind (arith, nat_tests, outside, some)))
+        ]
 
 module _ (regs : Registers) (part : ℕ → Part (List CopyJob)) (r : ℕ) (f : ℕ → List CopyJob) (each : (i : ℕ) → part_jobs regs (part i) ≡ (if r == i + 1 then f i else [])) where
   none_before : (n : ℕ) → (r ≡ 0) ⊎ (n < r) → flat_map (part_jobs regs) (first_parts part n) ≡ []
@@ -55,14 +67,7 @@ module _ (regs : Registers) (part : ℕ → Part (List CopyJob)) (r : ℕ) (f : 
 
   pub jobs_of : (n : ℕ) → flat_map (part_jobs regs) (first_parts part n) ≡ (if is_region n r then f (r - 1) else [])
   jobs_of n =
-      elim (cases_eq r 0) [
-        | inl none ↦ none_before n (inl none) ∙ grind (arith, nat_tests, none)
-        | inr some ↦
-            elim (cases_lt n r) [
-              | inl above ↦ none_before n (inr above) ∙ grind (arith, nat_tests, above)
-              | inr within ↦ one_of n (omega (arith, some)) within ∙ grind (arith, nat_tests, some, within)
-            ]
-      ]
+      by_region n r (λ b. flat_map (part_jobs regs) (first_parts part n) ≡ (if b then f (r - 1) else [])) (none_before n) (one_of n)
 
 module _ (regs : Registers) (part : ℕ → Part (List CopyJob)) (r : ℕ) (g : ℕ → ℕ) (each : (i : ℕ) → part_run regs (part i) ≡ (if r == i + 1 then 2 + g i else 3)) where
   more_run : (n : ℕ) → sum_by (part_run regs) (first_parts part (suc n)) ≡ sum_by (part_run regs) (first_parts part n) + part_run regs (part n)
@@ -102,14 +107,8 @@ module _ (regs : Registers) (part : ℕ → Part (List CopyJob)) (r : ℕ) (g : 
 
   pub run_of : (n : ℕ) → sum_by (part_run regs) (first_parts part n) ≡ (if is_region n r then 3 * n - 1 else 3 * n) + (if is_region n r then g (r - 1) else 0)
   run_of n =
-      elim (cases_eq r 0) [
-        | inl none ↦ run_before n (inl none) ∙ grind (arith, nat_tests, none)
-        | inr some ↦
-            elim (cases_lt n r) [
-              | inl above ↦ run_before n (inr above) ∙ grind (arith, nat_tests, above)
-              | inr within ↦ run_within n (omega (arith, some)) within ∙ grind (arith, nat_tests, some, within)
-            ]
-      ]
+      by_region n r (λ b. sum_by (part_run regs) (first_parts part n) ≡ (if b then 3 * n - 1 else 3 * n) + (if b then g (r - 1) else 0))
+      (λ out. run_before n out ∙ omega arith) (run_within n)
 
 -- ---- what is kept
 
@@ -168,21 +167,25 @@ module _ (w : SwitchPlan (List CopyJob)) (s r : ℕ) where
   parted true always kept run test same = let both = jobs_run-append always kept in omega (arith, both, same)
   parted false always kept run test same = refl
 
+  -- words of a side's parts: those of its tests, of its jobs, and of the test for the twin
+  side_run : (part : ℕ → Part (List CopyJob)) (always kept : ℕ → List CopyJob) (other own away : ℕ)
+      → ((i : ℕ) → part_run regs (part i) ≡ (if own == i + 1 then 2 + (jobs_run (always i) + kept_run regs (kept_of w other (i + 1) (kept i))) else 3))
+      → kept_run regs (kept_of w other own (kept (own - 1))) ≡ jobs_run (kept_unless (twin_in w own) away (kept (own - 1))) + twin_test_run (twin_in w own) away
+      → sum_by (part_run regs) (first_parts part w.regions) ≡ tests_run w own + (jobs_run (side_jobs w always kept own away) + twin_run w own away)
+  side_run part always kept other own away each runs =
+      run_of regs part own (λ i. jobs_run (always i) + kept_run regs (kept_of w other (i + 1) (kept i))) each w.regions
+      ∙ ap (λ n. tests_run w own + n)
+      (number_again (λ i k. jobs_run (always i) + kept_run regs (kept_of w other k (kept i))) 0 w.regions own
+      ∙ parted (is_region w.regions own) (always (own - 1)) (kept_unless (twin_in w own) away (kept (own - 1)))
+      (kept_run regs (kept_of w other own (kept (own - 1)))) (twin_test_run (twin_in w own) away) runs)
+
   leave_run : sum_by (part_run regs) (first_parts (leave_part w) w.regions) ≡ tests_run w s + (jobs_run (side_jobs w w.leave w.kept_leave s r) + twin_run w s r)
   leave_run =
-      run_of regs (leave_part w) s (λ i. jobs_run (w.leave i) + kept_run regs (kept_of w 30 (i + 1) (w.kept_leave i))) (λ i. refl) w.regions
-      ∙ ap (λ n. tests_run w s + n)
-      (number_again (λ i k. jobs_run (w.leave i) + kept_run regs (kept_of w 30 k (w.kept_leave i))) 0 w.regions s
-      ∙ parted (is_region w.regions s) (w.leave (s - 1)) (kept_unless (twin_in w s) r (w.kept_leave (s - 1)))
-      (kept_run regs (kept_of w 30 s (w.kept_leave (s - 1)))) (twin_test_run (twin_in w s) r) (kept_runs s r (twin_in w s) (w.kept_leave (s - 1))))
+      side_run (leave_part w) w.leave w.kept_leave 30 s r (λ i. refl) (kept_runs s r (twin_in w s) (w.kept_leave (s - 1)))
 
   enter_run : sum_by (part_run regs) (first_parts (enter_part w) w.regions) ≡ tests_run w r + (jobs_run (side_jobs w w.enter w.kept_enter r s) + twin_run w r s)
   enter_run =
-      run_of regs (enter_part w) r (λ i. jobs_run (w.enter i) + kept_run regs (kept_of w 6 (i + 1) (w.kept_enter i))) (λ i. refl) w.regions
-      ∙ ap (λ n. tests_run w r + n)
-      (number_again (λ i k. jobs_run (w.enter i) + kept_run regs (kept_of w 6 k (w.kept_enter i))) 0 w.regions r
-      ∙ parted (is_region w.regions r) (w.enter (r - 1)) (kept_unless (twin_in w r) s (w.kept_enter (r - 1)))
-      (kept_run regs (kept_of w 6 r (w.kept_enter (r - 1)))) (twin_test_run (twin_in w r) s) (kept_runs_6 s r (twin_in w r) (w.kept_enter (r - 1))))
+      side_run (enter_part w) w.enter w.kept_enter 6 r s (λ i. refl) (kept_runs_6 s r (twin_in w r) (w.kept_enter (r - 1)))
 
   pub run_is : routine_run w s r ≡ 5 + length (fences w.fence_i) + (tests_run w s + tests_run w r) + (twin_run w s r + twin_run w r s) + jobs_run (switch_jobs w s r)
   run_is =

@@ -3,6 +3,7 @@ pub mod ByteLemmas
 pub mod JobRanges
 pub mod Ways
 pub mod JobWays
+pub mod TestedParts
 pub mod PartWays
 pub mod Control
 pub mod Whole

@@ -1,15 +1,15 @@
 -- Things by home address, one behind the other.
-use Rattle.std.proofs.Common.{inl, inr, ◌≡◌, ℕ, zero, suc, ◌+◌, ◌<◌, ◌≤◌, nat_lt, true, false, List, [], ◌∷◌, map, take, length, slice_index_or, ◌∙◌, ap, subst, arith, refl}
-use Rattle.std.specs.Prelude.{AllPairs}
+use Rattle.std.proofs.Common.{inl, inr, ◌≡◌, ℕ, zero, suc, ◌+◌, ◌%◌, ◌<◌, ◌≤◌, nat_lt, true, false, if◌then◌else◌, List, [], ◌∷◌, map, take, length, slice_index_or, ◌∙◌, ap, subst, arith, refl}
+use Rattle.std.specs.Prelude.{All, AllPairs}
 use Rattle.std.specs.List.{sum_by}
 use Rattle.std.specs.List.Sorted.{IsPermutation, IsNonDecreasing, IsNonDecreasingBy, IsStrictlyIncreasing, IsPartitionPoint}
 use Rattle.std.proofs.Math.ListN.{get_or-map}
 use Rattle.std.proofs.Math.Dec.{eqb}
 use Rattle.std.proofs.lemmas.Bool.{cases_lt}
 use Rattle.std.proofs.lemmas.Bool.Decides.{nat_tests, Decides-eqb}
-use Rattle.std.proofs.lemmas.List.{length-map, get_or-map as get_or-mapped}
+use Rattle.std.proofs.lemmas.List.{length-map, get_or_default, get_or-map as get_or-mapped}
 use Rattle.std.proofs.lemmas.List.Kept.{AllPairs-from_increasing}
-use Rattle.std.proofs.lemmas.List.Sorted.{IsPermutation-map}
+use Rattle.std.proofs.lemmas.List.Sorted.{IsPermutation-map, Contains-permutation, sum_by-IsPermutation}
 use Rattle.std.proofs.lemmas.List.Sums.{sum_by-cons}
 use Rattle.std.proofs.lemmas.Map.Keys.{IsDistinct-IsPermutation, IsStrictlyIncreasing-from_distinct}
 use Rattle.std.proofs.lemmas.Map.Made.{IsDistinct-from_AllPairs}
@@ -41,6 +41,20 @@ module _ {S : Type 0} (home size : S → ℕ) where
       let rest = none_below at all (λ j d below. above (suc j) d (omega (arith, below))) in
       let more = below_more at one all in
       grind (arith, nat_tests, here, rest, more)
+
+  here_aligned : (at : ℕ) (one : S) → size one % 4 ≡ 0 → bytes_if_before home size at one % 4 ≡ 0
+  here_aligned at one even = by (size one) even
+    where
+      by : (n : ℕ) → n % 4 ≡ 0 → (if nat_lt (home one) at then n else 0) % 4 ≡ 0
+      by n aligned = grind (arith, nat_tests, aligned)
+
+  pub below_aligned : ((one : S) → size one % 4 ≡ 0) → (at : ℕ) (all : List S) → bytes_before home size at all % 4 ≡ 0
+  below_aligned even at [] = refl
+  below_aligned even at (one ∷ all) =
+      let rest = below_aligned even at all in
+      let more = below_more at one all in
+      let here = here_aligned at one (even one) in
+      omega (arith, rest, more, here)
 
   here_some : (at : ℕ) (one : S) → bytes_if_before home size at one ≤ size one
   here_some at one = grind (arith, nat_tests)
@@ -85,6 +99,16 @@ module _ {S : Type 0} (home size : S → ℕ) where
 
   pub ascend_behind : (one : S) (all : List S) → Ascend (one ∷ all) → Ascend all
   ascend_behind one all rise i j e before inside = rise (suc i) (suc j) e (omega (arith, before)) (omega (arith, inside))
+
+  -- what holds of each at its place in one order, holds in any
+  pub in_any_order : (Stands : ℕ → S → Type 0) (at : ℕ) (all ordered : List S) → IsPermutation all ordered → ((j : ℕ) (d : S) → j < length ordered → Stands (at + bytes_before home size (home (slice_index_or ordered j d)) ordered) (slice_index_or ordered j d)) → All (λ one. Stands (at + bytes_before home size (home one) all) one) all
+  in_any_order Stands at all ordered same each k d below =
+      let one = slice_index_or all k d in
+      let (j, inside, here) = Contains-permutation all ordered one same (k, below, get_or_default all k one d below) in
+      let sums = sum_by-IsPermutation (bytes_if_before home size (home one)) all ordered same in
+      let there : Stands (at + bytes_before home size (home one) ordered) one =
+      subst (λ other. Stands (at + bytes_before home size (home other) ordered) other) here (each j one inside) in
+      subst (λ n. Stands (at + n) one) sums there
 
 -- ---- things of a program, seen as what they are to serve
 

@@ -1,5 +1,5 @@
 -- Parts of the routine: a test, and what it guards.
-use Rattle.std.proofs.Common.{◌≡◌, ◌⊎◌, inl, inr, ℕ, zero, suc, ◌+◌, ◌*◌, ◌<◌, ◌≤◌, ◌==◌, Bool, true, false, not, List, [], ◌∷◌, ◌++◌, length, if◌then◌else◌, pos, refl, sym, ◌∙◌, ap, subst, arith}
+use Rattle.std.proofs.Common.{◌≡◌, inl, inr, ℕ, zero, suc, ◌+◌, ◌*◌, ◌<◌, ◌≤◌, ◌==◌, Bool, true, false, not, List, [], ◌∷◌, ◌++◌, length, if◌then◌else◌, pos, refl, sym, ◌∙◌, ap, subst, arith}
 use Rattle.std.specs.Prelude.{Option, Some, None, All}
 use Rattle.std.specs.List.{flat_map, sum_by}
 use Rattle.std.proofs.lemmas.Int.{ints}
@@ -24,6 +24,7 @@ use Rattle.patch_code.specs.declared.job.CopyJob.{CopyJob}
 use Rattle.patch_code.specs.Jobs.{jobs_run}
 use Rattle.patch_code.specs.Parts.{Kept, Part, minus_imm, guarded, kept_code, part_code}
 use Rattle.patch_code.specs.Switching.{jobs_code, asked, kept_jobs, part_jobs, kept_run, part_run}
+use Rattle.patch_code.proofs.TestedParts.{IsTest, IsKept, IsSome, IsPart}
 use Rattle.patch_code.proofs.Ways.{StandsStill, Passed, step_way, addi_follows, follow, passed_on}
 use Rattle.patch_code.proofs.JobWays.{Done, CanRun, nothing_done, done_on, done_as, jobs_way}
 
@@ -38,10 +39,6 @@ branch_by t false pc a test at below = rw (at, test) (omega (arith, below))
 
 jump_by : (pc a n : ℕ) → pc ≡ a + 8 → a + 12 + 4 * n < 4294967296 → offset pc (pos (4 + 4 * n)) ≡ a + 12 + 4 * n
 jump_by pc a n at below = rw at (grind (arith, ints, nat_tests))
-
--- the registers whose words are tested
-abbrev pub IsTest : ℕ → Type 0
-IsTest k = (k ≡ 6) ⊎ (k ≡ 30)
 
 module _ (s : State) (going : s.outcome ≡ GoesOn) (lo size : ℕ) (inside : lo + size < 4294967296) (first : Memory) where
   -- ---- a test
@@ -142,20 +139,9 @@ module _ (s : State) (going : s.outcome ≡ GoesOn) (lo size : ℕ) (inside : lo
     equal_where h k n test asks few =
         ap (λ x. offset x (minus_imm n) == 0) (held h k test asks) ∙ zero_where (asking k) n (fits_asked k test) few
 
-    pub record FitsKept (k : Kept (List CopyJob)) : Type 0 where
-      pub test : IsTest k.tested
-      pub few : k.twin < 2048
-      pub jobs : All (CanRun s going lo size inside first) k.jobs
-
-    abbrev pub FitsSome : Option (Kept (List CopyJob)) → Type 0
-    FitsSome None = Unit {0}
-    FitsSome (Some k) = FitsKept k
-
-    pub record FitsPart (p : Part (List CopyJob)) : Type 0 where
-      pub test : IsTest p.tested
-      pub few : p.region < 2048
-      pub jobs : All (CanRun s going lo size inside first) p.jobs
-      pub kept : FitsSome p.kept
+    -- a job that the routine can run
+    abbrev Runs : CopyJob → Type 0
+    Runs = CanRun s going lo size inside first
 
     -- jobs behind a test that passes
     guarded_way : (kind : BranchKind) (tested n : ℕ) (jobs : List CopyJob) (a : ℕ) (h : Hart) → All (CanRun s going lo size inside first) jobs → ((x : ℕ) → h.mem x < 256) → StandsStill s going lo size inside first h.mem → h.pc ≡ a → CodeAt s.map first a (guarded kind tested n (jobs_code jobs)) → lo ≤ a → a + 12 + 4 * length (jobs_code jobs) ≤ lo + size → is_taken kind (offset (register h.regs tested) (minus_imm n)) 0 ≡ true → (k : Hart) × Done s going lo size inside first (2 + jobs_run jobs) jobs (a + 12 + 4 * length (jobs_code jobs)) h k
@@ -168,7 +154,7 @@ module _ (s : State) (going : s.outcome ≡ GoesOn) (lo size : ℕ) (inside : lo
         (body_code kind tested n body a h small still at code low high) (omega (arith, low)) high in
         (rest.0, done_on s going lo size inside first 2 (jobs_run jobs) [] jobs (a + 12) (a + 12 + 4 * length body) h k rest.0 one rest.1)
 
-    kept_by : (k : Kept (List CopyJob)) (a : ℕ) (h : Hart) (b : Bool) → FitsKept k → Asks h → ((x : ℕ) → h.mem x < 256) → StandsStill s going lo size inside first h.mem → h.pc ≡ a → CodeAt s.map first a (kept_code jobs_code (Some k)) → lo ≤ a → a + 4 * length (kept_code jobs_code (Some k)) ≤ lo + size → (asking k.tested == k.twin) ≡ b → (l : Hart) × Done s going lo size inside first (if b then 3 else 2 + jobs_run k.jobs) (if b then [] else k.jobs) (a + 12 + 4 * length (jobs_code k.jobs)) h l
+    kept_by : (k : Kept (List CopyJob)) (a : ℕ) (h : Hart) (b : Bool) → IsKept Runs k → Asks h → ((x : ℕ) → h.mem x < 256) → StandsStill s going lo size inside first h.mem → h.pc ≡ a → CodeAt s.map first a (kept_code jobs_code (Some k)) → lo ≤ a → a + 4 * length (kept_code jobs_code (Some k)) ≤ lo + size → (asking k.tested == k.twin) ≡ b → (l : Hart) × Done s going lo size inside first (if b then 3 else 2 + jobs_run k.jobs) (if b then [] else k.jobs) (a + 12 + 4 * length (jobs_code k.jobs)) h l
     kept_by k a h true fits asks small still at code low high test =
         let untaken : is_taken Bne (offset (register h.regs k.tested) (minus_imm k.twin)) 0 ≡ false =
         ap (λ b. not b) (equal_where h k.tested k.twin fits.test asks fits.few ∙ test) in (
@@ -180,7 +166,7 @@ module _ (s : State) (going : s.outcome ≡ GoesOn) (lo size : ℕ) (inside : lo
         ap (λ b. not b) (equal_where h k.tested k.twin fits.test asks fits.few ∙ test) in
         guarded_way Bne k.tested k.twin k.jobs a h fits.jobs small still at code low (omega (arith, high)) taken
 
-    kept_way : (kept : Option (Kept (List CopyJob))) (a : ℕ) (h : Hart) → FitsSome kept → Asks h → ((x : ℕ) → h.mem x < 256) → StandsStill s going lo size inside first h.mem → h.pc ≡ a → CodeAt s.map first a (kept_code jobs_code kept) → lo ≤ a → a + 4 * length (kept_code jobs_code kept) ≤ lo + size → (l : Hart) × Done s going lo size inside first (kept_run asking kept) (kept_jobs asking kept) (a + 4 * length (kept_code jobs_code kept)) h l
+    kept_way : (kept : Option (Kept (List CopyJob))) (a : ℕ) (h : Hart) → IsSome Runs kept → Asks h → ((x : ℕ) → h.mem x < 256) → StandsStill s going lo size inside first h.mem → h.pc ≡ a → CodeAt s.map first a (kept_code jobs_code kept) → lo ≤ a → a + 4 * length (kept_code jobs_code kept) ≤ lo + size → (l : Hart) × Done s going lo size inside first (kept_run asking kept) (kept_jobs asking kept) (a + 4 * length (kept_code jobs_code kept)) h l
     kept_way None a h fits asks small still at code low high =
         (h, done_as s going lo size inside first 0 0 [] [] a (a + 4 * 0) h h refl refl (omega arith) (nothing_done s going lo size inside first a h at still small))
     kept_way (Some k) a h fits asks small still at code low high =
@@ -191,7 +177,7 @@ module _ (s : State) (going : s.outcome ≡ GoesOn) (lo size : ℕ) (inside : lo
               (a + 4 * length (kept_code jobs_code (Some k))) h run.0 refl refl there run.1,
         )
 
-    part_by : (p : Part (List CopyJob)) (a : ℕ) (h : Hart) (b : Bool) → FitsPart p → Asks h → ((x : ℕ) → h.mem x < 256) → StandsStill s going lo size inside first h.mem → h.pc ≡ a → CodeAt s.map first a (part_code jobs_code p) → lo ≤ a → a + 4 * length (part_code jobs_code p) ≤ lo + size → (asking p.tested == p.region) ≡ b → (l : Hart) × Done s going lo size inside first (if b then 2 + (jobs_run p.jobs + kept_run asking p.kept) else 3) (if b then p.jobs ++ kept_jobs asking p.kept else []) (a + 4 * length (part_code jobs_code p)) h l
+    part_by : (p : Part (List CopyJob)) (a : ℕ) (h : Hart) (b : Bool) → IsPart Runs p → Asks h → ((x : ℕ) → h.mem x < 256) → StandsStill s going lo size inside first h.mem → h.pc ≡ a → CodeAt s.map first a (part_code jobs_code p) → lo ≤ a → a + 4 * length (part_code jobs_code p) ≤ lo + size → (asking p.tested == p.region) ≡ b → (l : Hart) × Done s going lo size inside first (if b then 2 + (jobs_run p.jobs + kept_run asking p.kept) else 3) (if b then p.jobs ++ kept_jobs asking p.kept else []) (a + 4 * length (part_code jobs_code p)) h l
     part_by p a h false fits asks small still at code low high test =
         let untaken : is_taken Beq (offset (register h.regs p.tested) (minus_imm p.region)) 0 ≡ false =
         equal_where h p.tested p.region fits.test asks fits.few ∙ test in
@@ -227,7 +213,7 @@ module _ (s : State) (going : s.outcome ≡ GoesOn) (lo size : ℕ) (inside : lo
               (kept_at + 4 * length (kept_code jobs_code p.kept)) h two.0 three.0 both three.1),
         )
 
-    pub parts_way : (parts : List (Part (List CopyJob))) (a : ℕ) (h : Hart) → All FitsPart parts → Asks h → ((x : ℕ) → h.mem x < 256) → StandsStill s going lo size inside first h.mem → h.pc ≡ a → CodeAt s.map first a (flat_map (part_code jobs_code) parts) → lo ≤ a → a + 4 * length (flat_map (part_code jobs_code) parts) ≤ lo + size → (l : Hart) × Done s going lo size inside first (sum_by (part_run asking) parts) (flat_map (part_jobs asking) parts) (a + 4 * length (flat_map (part_code jobs_code) parts)) h l
+    pub parts_way : (parts : List (Part (List CopyJob))) (a : ℕ) (h : Hart) → All (IsPart Runs) parts → Asks h → ((x : ℕ) → h.mem x < 256) → StandsStill s going lo size inside first h.mem → h.pc ≡ a → CodeAt s.map first a (flat_map (part_code jobs_code) parts) → lo ≤ a → a + 4 * length (flat_map (part_code jobs_code) parts) ≤ lo + size → (l : Hart) × Done s going lo size inside first (sum_by (part_run asking) parts) (flat_map (part_jobs asking) parts) (a + 4 * length (flat_map (part_code jobs_code) parts)) h l
     parts_way [] a h fits asks small still at code low high =
         (h, done_as s going lo size inside first 0 0 [] [] a (a + 4 * 0) h h refl refl (omega arith) (nothing_done s going lo size inside first a h at still small))
     parts_way (p ∷ parts) a h fits asks small still at code low high =
@@ -235,11 +221,11 @@ module _ (s : State) (going : s.outcome ≡ GoesOn) (lo size : ℕ) (inside : lo
         let rest_code : List Instr = flat_map (part_code jobs_code) parts in
         let counts = length-append head rest_code in
         let one =
-        part_by p a h (asking p.tested == p.region) (All-head FitsPart p parts fits) asks small still at (code_front head rest_code s.map first a code) low
+        part_by p a h (asking p.tested == p.region) (All-head (IsPart Runs) p parts fits) asks small still at (code_front head rest_code s.map first a code) low
         (omega (arith, high, counts)) refl in
         let next : ℕ = a + 4 * length head in
         let rest =
-        parts_way parts next one.0 (All-tail FitsPart p parts fits) (asks_on (part_run asking p) (part_jobs asking p) next h one.0 one.1 asks)
+        parts_way parts next one.0 (All-tail (IsPart Runs) p parts fits) (asks_on (part_run asking p) (part_jobs asking p) next h one.0 one.1 asks)
         one.1.small one.1.passed.still one.1.passed.pc (code_behind head rest_code s.map first a code) (omega (arith, low)) (omega (arith, high, counts)) in
         let there : next + 4 * length rest_code ≡ a + 4 * length (head ++ rest_code) = omega (arith, counts) in (
           rest.0,

@@ -2,21 +2,19 @@
 use Rattle.std.proofs.Common.{◌≡◌, ℕ, zero, suc, ◌+◌, ◌*◌, ◌%◌, ◌<◌, List, [], ◌∷◌, ◌++◌, length, slice_index, slice_index_or, refl, ◌∙◌, ap, subst, arith}
 use Rattle.std.specs.Prelude.{All}
 use Rattle.std.specs.List.{flat_map, concat}
-use Rattle.std.proofs.lemmas.Bool.Decides.{nat_tests}
-use Rattle.std.proofs.lemmas.List.{length-append, get_or_default}
+use Rattle.std.proofs.lemmas.List.{length-append}
 use Rattle.std.proofs.lemmas.List.Sums.{sum_by-cons}
-use Rattle.std.proofs.lemmas.List.Sorted.{Contains-permutation, sum_by-IsPermutation}
+use Rattle.std.proofs.lemmas.List.Sorted.{sum_by-IsPermutation}
 use Rattle.rv32im.specs.Memory.{Memory}
 use Rattle.rv32im.specs.Sequences.{MeanAll}
 use Rattle.rv32im.proofs.SequenceLemmas.{mean_count}
 use Rattle.flat_machine.specs.Lines.{HoldsAt}
-use Rattle.patch_code.specs.Homes.{bytes_if_before}
 use Rattle.patch_code.specs.PlainStubs.{PlainStub, home_of, stub_code, stub_bytes, stubs_bytes, bytes_below}
 use Rattle.patch_code.specs.Layout.{CodePlan, AreCodeWords, stubs_at, images_at, image_places, bytes_behind}
 use Rattle.patch_code.specs.Start.{start_bytes, start_stub}
 use Rattle.patch_code.specs.StubLaws.{StubStands, LiesInside, PartsStand, ImagesStand}
 use Rattle.patch_code.proofs.Held.{held_front, held_behind}
-use Rattle.patch_code.proofs.Order.{Ascend, ascend_from, ascend_behind, below_more, below_fits, first_below, later_below}
+use Rattle.patch_code.proofs.Order.{Ascend, ascend_from, ascend_behind, below_aligned, below_fits, first_below, later_below, in_any_order}
 
 -- ---- stubs
 
@@ -43,31 +41,25 @@ stub_found (stub ∷ stubs) (a ∷ b ∷ words) mem at (suc k) d rise mean held 
 
 -- ---- images
 
-pub images_found : (images : List (List ℕ)) (mem : Memory) (at j : ℕ) → HoldsAt mem at (concat images) → j < length images → HoldsAt mem (slice_index (image_places at images) j) (slice_index_or images j [])
+images_found : (images : List (List ℕ)) (mem : Memory) (at j : ℕ) → HoldsAt mem at (concat images) → j < length images → HoldsAt mem (slice_index (image_places at images) j) (slice_index_or images j [])
 images_found [] mem at j held below = absurd (omega (arith, below))
 images_found (image ∷ images) mem at zero held below = held_front mem at image (concat images) held
 images_found (image ∷ images) mem at (suc j) held below =
     images_found images mem (at + 4 * length image) j
     (held_behind mem at (at + 4 * length image) image (concat images) refl held) (omega (arith, below))
 
+-- images behind other words
+pub images_behind : (images : List (List ℕ)) (mem : Memory) (at to : ℕ) (words : List ℕ) → at + 4 * length words ≡ to → HoldsAt mem at (words ++ concat images) → ImagesStand mem to images
+images_behind images mem at to words there held j below =
+    images_found images mem to j (held_behind mem at to words (concat images) there held) below
+
 -- ---- how far stubs reach
-
-here_aligned : (home : ℕ) (stub : PlainStub) → bytes_if_before home_of stub_bytes home stub % 4 ≡ 0
-here_aligned home stub = grind (arith, nat_tests)
-
-below_aligned : (home : ℕ) (stubs : List PlainStub) → bytes_below home stubs % 4 ≡ 0
-below_aligned home [] = refl
-below_aligned home (stub ∷ stubs) =
-    let rest = below_aligned home stubs in
-    let more = below_more home_of stub_bytes home stub stubs in
-    let here = here_aligned home stub in
-    omega (arith, rest, more, here)
 
 lies_inside : (p : CodePlan) → p.start.base % 4 ≡ 0 → All (LiesInside p) p.stubs
 lies_inside p aligned k d below =
     let stub = slice_index_or p.stubs k d in
     let fits = below_fits home_of stub_bytes p.stubs k d below in
-    let even = below_aligned stub.home p.stubs in
+    let even = below_aligned home_of stub_bytes (λ stub. omega arith) stub.home p.stubs in
     record { aligned = omega (arith, aligned, even); from = omega arith; ends = omega (arith, fits) }
 
 -- ---- how many words
@@ -119,29 +111,18 @@ module _ (p : CodePlan) (words : List ℕ) (are : AreCodeWords p words) where
         (subst (λ xs. HoldsAt mem p.start.base xs) are.whole held)
 
     pub stubs_stand : All (StubStands p mem) p.stubs
-    stubs_stand k d below =
-        let stub = slice_index_or p.stubs k d in
-        let (j, inside, here) =
-        Contains-permutation p.stubs are.ordered stub are.by_home.same (k, below, get_or_default p.stubs k stub d below) in
-        let found =
-        stub_found are.ordered are.jumps mem (stubs_at p) j stub (ascend_from home_of stub_bytes are.ordered are.by_home.ascend) are.mean
-        (held_front mem (stubs_at p) are.jumps (concat p.images) behind_start) inside in
-        let same = sum_by-IsPermutation (bytes_if_before home_of stub_bytes stub.home) p.stubs are.ordered are.by_home.same in
-        let there : StandsAt mem (stubs_at p + bytes_below stub.home are.ordered) stub =
-        subst (λ (s : PlainStub). StandsAt mem (stubs_at p + bytes_below s.home are.ordered) s) here found in
-        subst (λ n. StandsAt mem (stubs_at p + n) stub) same there
-
-    pub images_stand : ImagesStand mem (images_at p) p.images
-    images_stand j below =
-        let count = jumps_count in
-        images_found p.images mem (images_at p) j
-        (held_behind mem (stubs_at p) (images_at p) are.jumps (concat p.images) (omega (arith, count)) behind_start) below
+    stubs_stand =
+        in_any_order home_of stub_bytes (StandsAt mem) (stubs_at p) p.stubs are.ordered are.by_home.same (λ j d inside.
+        stub_found are.ordered are.jumps mem (stubs_at p) j d (ascend_from home_of stub_bytes are.ordered are.by_home.ascend) are.mean
+        (held_front mem (stubs_at p) are.jumps (concat p.images) behind_start) inside)
 
 pub parts_stand_so : PartsStand
 parts_stand_so =
     record {
       stubs = λ p words mem are held. stubs_stand p words are mem held;
-      images = λ p words mem are held. images_stand p words are mem held;
+      images = λ p words mem are held.
+          let count = jumps_count p words are in
+          images_behind p.images mem (stubs_at p) (images_at p) are.jumps (omega (arith, count)) (behind_start p words are mem held);
       inside = lies_inside;
       count = λ p words are. words_count p words are;
     }

@@ -1,5 +1,5 @@
 -- Stubs one behind the other.
-use Rattle.std.proofs.Common.{◌≡◌, ℕ, zero, suc, ◌+◌, ◌*◌, ◌%◌, ◌<◌, ◌==◌, nat_lt, false, if◌then◌else◌, List, [], ◌∷◌, ◌++◌, length, slice_index_or, refl, sym, ◌∙◌, ap, subst, arith}
+use Rattle.std.proofs.Common.{◌≡◌, ℕ, zero, suc, ◌+◌, ◌*◌, ◌%◌, ◌<◌, ◌==◌, false, List, [], ◌∷◌, ◌++◌, length, slice_index_or, refl, sym, ◌∙◌, ap, subst, arith}
 use Rattle.std.proofs.lemmas.Bool.Decides.{nat_tests}
 use Rattle.std.proofs.lemmas.List.{append-nil, append_assoc, length-append}
 use Rattle.std.proofs.lemmas.List.Sums.{sum_by-cons}
@@ -9,10 +9,9 @@ use Rattle.rv32im.specs.Sequences.{jump_absolute, distance}
 use Rattle.rv32im.proofs.SequenceLemmas.{mean_count}
 use Rattle.flat_machine.specs.Lines.{HoldsAt}
 use Rattle.patch_code.specs.Checking.{checking}
-use Rattle.patch_code.specs.Homes.{bytes_if_before}
 use Rattle.patch_code.specs.Serving.{StubBody, jumps_to, runs_words, ServingStub, serving_home, test_code, test_bytes, body_bytes, serving_size, serving_bytes, served_before, IsBody, AreStubWords, AreServed}
 use Rattle.patch_code.specs.Overlay.{Reaches, CanServeAt, CanServeFrom}
-use Rattle.patch_code.proofs.Order.{Ascend, ascend_behind, first_below, later_below, below_more}
+use Rattle.patch_code.proofs.Order.{Ascend, ascend_behind, first_below, later_below, below_aligned}
 use Rattle.patch_code.proofs.Held.{held_front, held_behind}
 
 -- a stub with a region calls the routine
@@ -64,19 +63,8 @@ body_aligned (runs_words words) = omega arith
 pub size_aligned : (stub : ServingStub) → serving_size stub % 4 ≡ 0
 size_aligned stub = let body = body_aligned stub.body in grind (arith, nat_tests, body)
 
-here_aligned : (home : ℕ) (stub : ServingStub) → bytes_if_before serving_home serving_size home stub % 4 ≡ 0
-here_aligned home stub = let size = size_aligned stub in by (serving_size stub) size
-  where
-    by : (n : ℕ) → n % 4 ≡ 0 → (if nat_lt stub.home home then n else 0) % 4 ≡ 0
-    by n even = grind (arith, nat_tests, even)
-
 pub before_aligned : (home : ℕ) (stubs : List ServingStub) → served_before home stubs % 4 ≡ 0
-before_aligned home [] = refl
-before_aligned home (stub ∷ stubs) =
-    let rest = before_aligned home stubs in
-    let more = below_more serving_home serving_size home stub stubs in
-    let here = here_aligned home stub in
-    omega (arith, rest, more, here)
+before_aligned home stubs = below_aligned serving_home serving_size size_aligned home stubs
 
 pub serving_aligned : (stubs : List ServingStub) → serving_bytes stubs % 4 ≡ 0
 serving_aligned [] = refl

@@ -14,7 +14,7 @@ use Rattle.patch_code.proofs.ByteLemmas.{jobs_copy_so}
 use Rattle.patch_code.specs.Parts.{Kept, Part, SwitchPlan, twin_of, kept_of, leave_part, enter_part, first_parts, all_parts}
 use Rattle.patch_code.specs.Switching.{kept_jobs, part_jobs}
 use Rattle.patch_code.specs.Switches.{FitsJob}
-use Rattle.patch_code.proofs.PartWays.{IsTest}
+use Rattle.patch_code.proofs.TestedParts.{IsTest, IsSome, IsPart}
 
 -- ---- what all parts have
 
@@ -24,39 +24,23 @@ first_all P part (suc n) each =
     All-append P (first_parts part n) (part n ∷ []) (first_all P part n (λ i below. each i (omega (arith, below))))
     (All-cons P (part n) [] (each n (omega arith)) (All-nil P))
 
--- tests that the routine can make, of jobs that all have P
 module _ (P : CopyJob → Type 0) where
-  pub record IsKept (k : Kept (List CopyJob)) : Type 0 where
-    pub test : IsTest k.tested
-    pub few : k.twin < 2048
-    pub jobs : All P k.jobs
-
-  abbrev pub IsSome : Option (Kept (List CopyJob)) → Type 0
-  IsSome None = Unit {0}
-  IsSome (Some k) = IsKept k
-
-  pub record IsPart (p : Part (List CopyJob)) : Type 0 where
-    pub test : IsTest p.tested
-    pub few : p.region < 2048
-    pub jobs : All P p.jobs
-    pub kept : IsSome p.kept
-
-  kept_have : (regs : Registers) (kept : Option (Kept (List CopyJob))) → IsSome kept → All P (kept_jobs regs kept)
+  kept_have : (regs : Registers) (kept : Option (Kept (List CopyJob))) → IsSome P kept → All P (kept_jobs regs kept)
   kept_have regs None have = All-nil P
   kept_have regs (Some k) have =
       cond_both (regs k.tested == k.twin) [] k.jobs (λ jobs. All P jobs) (λ twins. All-nil P) (λ others. have.jobs)
 
-  pub jobs_have : (regs : Registers) (parts : List (Part (List CopyJob))) → All IsPart parts → All P (flat_map (part_jobs regs) parts)
+  pub jobs_have : (regs : Registers) (parts : List (Part (List CopyJob))) → All (IsPart P) parts → All P (flat_map (part_jobs regs) parts)
   jobs_have regs [] have = All-nil P
   jobs_have regs (p ∷ parts) have =
-      let here = All-head IsPart p parts have in
+      let here = All-head (IsPart P) p parts have in
       All-append P (part_jobs regs p) (flat_map (part_jobs regs) parts)
       (cond_both (regs p.tested == p.region) (p.jobs ++ kept_jobs regs p.kept) [] (λ jobs. All P jobs)
       (λ same. All-append P p.jobs (kept_jobs regs p.kept) here.jobs (kept_have regs p.kept here.kept)) (λ other. All-nil P))
-      (jobs_have regs parts (All-tail IsPart p parts have))
+      (jobs_have regs parts (All-tail (IsPart P) p parts have))
 
   module _ (w : SwitchPlan (List CopyJob)) (few : w.regions < 2048) where
-    kept_is : (other r : ℕ) (jobs : List CopyJob) → IsTest other → r < 2048 → All P jobs → IsSome (kept_of w other r jobs)
+    kept_is : (other r : ℕ) (jobs : List CopyJob) → IsTest other → r < 2048 → All P jobs → IsSome P (kept_of w other r jobs)
     kept_is other r jobs test small have =
         cond_both w.twins (twin_of w.regions r) None IsMade
         (λ yes. cond_both (r % 2 == 0) (Some (r - 1)) (if nat_lt r w.regions then Some (r + 1) else None) IsMade
@@ -70,25 +54,25 @@ module _ (P : CopyJob → Type 0) where
         make = λ twin. record { tested = other; twin = twin; jobs = jobs }
 
         IsMade : Option ℕ → Type 0
-        IsMade = λ twin. IsSome (option_map make twin)
+        IsMade = λ twin. IsSome P (option_map make twin)
 
-    pub all_are : ((i : ℕ) → i < w.regions → All P (w.leave i)) → ((i : ℕ) → i < w.regions → All P (w.enter i)) → ((i : ℕ) → i < w.regions → All P (w.kept_leave i)) → ((i : ℕ) → i < w.regions → All P (w.kept_enter i)) → All IsPart (all_parts w)
+    -- a part that tests one register, and the other for what the twin keeps
+    part_is : (tested other i : ℕ) (jobs kept : List CopyJob) → IsTest tested → IsTest other → i < w.regions → All P jobs → All P kept → IsPart P (record { tested = tested; region = i + 1; jobs = jobs; kept = kept_of w other (i + 1) kept })
+    part_is tested other i jobs kept test second below have kept_have =
+        record {
+          test = test;
+          few = omega (arith, below, few);
+          jobs = have;
+          kept = kept_is other (i + 1) kept second (omega (arith, below, few)) kept_have;
+        }
+
+    pub all_are : ((i : ℕ) → i < w.regions → All P (w.leave i)) → ((i : ℕ) → i < w.regions → All P (w.enter i)) → ((i : ℕ) → i < w.regions → All P (w.kept_leave i)) → ((i : ℕ) → i < w.regions → All P (w.kept_enter i)) → All (IsPart P) (all_parts w)
     all_are leave enter kept_leave kept_enter =
-        All-append IsPart (first_parts (leave_part w) w.regions) (first_parts (enter_part w) w.regions)
-        (first_all IsPart (leave_part w) w.regions
-        (λ i below. record {
-          test = inl refl;
-          few = omega (arith, below, few);
-          jobs = leave i below;
-          kept = kept_is 30 (i + 1) (w.kept_leave i) (inr refl) (omega (arith, below, few)) (kept_leave i below);
-        }))
-        (first_all IsPart (enter_part w) w.regions
-        (λ i below. record {
-          test = inr refl;
-          few = omega (arith, below, few);
-          jobs = enter i below;
-          kept = kept_is 6 (i + 1) (w.kept_enter i) (inl refl) (omega (arith, below, few)) (kept_enter i below);
-        }))
+        All-append (IsPart P) (first_parts (leave_part w) w.regions) (first_parts (enter_part w) w.regions)
+        (first_all (IsPart P) (leave_part w) w.regions
+        (λ i below. part_is 6 30 i (w.leave i) (w.kept_leave i) (inl refl) (inr refl) below (leave i below) (kept_leave i below)))
+        (first_all (IsPart P) (enter_part w) w.regions
+        (λ i below. part_is 30 6 i (w.enter i) (w.kept_enter i) (inr refl) (inl refl) below (enter i below) (kept_enter i below)))
 
 -- ---- what jobs leave of control words
 

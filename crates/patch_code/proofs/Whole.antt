@@ -23,7 +23,9 @@ use Rattle.patch_code.specs.Parts.{SwitchPlan, part_code, all_parts}
 use Rattle.patch_code.specs.Switching.{begins, ends, routine, jobs_code, asked, part_run, switch_jobs, routine_run}
 use Rattle.patch_code.specs.Told.{read_at, write_at, jobs_accesses}
 use Rattle.patch_code.proofs.Ways.{StandsStill, Passed, Straight, step_way, lui_follows, load_follows, store_follows, fence_follows, straight, passed_on, passed_as, line_accesses}
-use Rattle.patch_code.proofs.PartWays.{Asks, FitsPart, parts_way}
+use Rattle.patch_code.proofs.JobWays.{CanRun}
+use Rattle.patch_code.proofs.PartWays.{Asks, parts_way}
+use Rattle.patch_code.proofs.TestedParts.{IsPart}
 use Rattle.patch_code.proofs.Control.{upper, control_at, control_access}
 
 back_to : (to : ℕ) → to < 4294967296 → to % 2 ≡ 0 → offset to (pos 0) / 2 * 2 ≡ to
@@ -213,7 +215,7 @@ module _ (s : State) (going : s.outcome ≡ GoesOn) (lo size : ℕ) (inside : lo
       pub mem : k.mem ≡ put_word (all_copied h.mem (switch_jobs w left entered)) base entered
       pub others : (x : ℕ) → (x ≡ 5 → ⊥) → (x ≡ 6 → ⊥) → (x ≡ 7 → ⊥) → (x ≡ 28 → ⊥) → (x ≡ 31 → ⊥) → k.regs x ≡ h.regs x
 
-    pub routine_way : (h : Hart) (left entered back : ℕ) (left_fits : left < 4294967296) (entered_fits : entered < 4294967296) → h.pc ≡ switch → StandsStill s going lo size inside first h.mem → ((x : ℕ) → h.mem x < 256) → word_at h.mem base ≡ left → h.regs 30 ≡ entered → h.regs 29 ≡ back → back % 2 ≡ 0 → back < 4294967296 → All (FitsPart s going lo size inside first left entered left_fits entered_fits) (all_parts w) → (k : Hart) × RoutineDone left entered back h k
+    pub routine_way : (h : Hart) (left entered back : ℕ) (left_fits : left < 4294967296) (entered_fits : entered < 4294967296) → h.pc ≡ switch → StandsStill s going lo size inside first h.mem → ((x : ℕ) → h.mem x < 256) → word_at h.mem base ≡ left → h.regs 30 ≡ entered → h.regs 29 ≡ back → back % 2 ≡ 0 → back < 4294967296 → All (IsPart (CanRun s going lo size inside first)) (all_parts w) → (k : Hart) × RoutineDone left entered back h k
     routine_way h left entered back left_fits entered_fits at still small current thirty returns even near fits =
         let fits_in = fits_all in
         let one = begun h at still in

@@ -1,22 +1,20 @@
 -- Where the parts of a whole plan's code stand.
-use Rattle.std.proofs.Common.{◌≡◌, ℕ, zero, suc, ◌+◌, ◌*◌, ◌%◌, List, ◌++◌, length, slice_index, slice_index_or, refl, ◌∙◌, ap, subst, arith}
+use Rattle.std.proofs.Common.{◌≡◌, ℕ, zero, suc, ◌+◌, ◌*◌, ◌%◌, List, ◌++◌, length, slice_index, slice_index_or, refl, ◌∙◌, ap, arith}
 use Rattle.std.specs.Prelude.{All, replicate}
 use Rattle.std.specs.List.{concat}
-use Rattle.std.proofs.lemmas.List.{append_assoc, length-append, get_or_default, get_or-append-add}
-use Rattle.std.proofs.lemmas.List.Sorted.{Contains-permutation, sum_by-IsPermutation}
+use Rattle.std.proofs.lemmas.List.{append_assoc, length-append, get_or-append-add}
+use Rattle.std.proofs.lemmas.List.Sorted.{sum_by-IsPermutation}
 use Rattle.rv32im.specs.Memory.{Memory, word_at}
 use Rattle.rv32im.proofs.SequenceLemmas.{mean_count}
 use Rattle.flat_machine.specs.Lines.{HoldsAt}
 use Rattle.patch_code.specs.Start.{start_at, start_bytes, start_stub}
-use Rattle.patch_code.specs.Homes.{bytes_if_before}
-use Rattle.patch_code.specs.Serving.{ServingStub, serving_home, serving_size, serving_bytes, served_before}
+use Rattle.patch_code.specs.Serving.{serving_home, serving_size, serving_bytes}
 use Rattle.patch_code.specs.Overlay.{OverlayPlan, switch_code, switch_bytes, switch_at, serving_at, overlay_images_at, rest_bytes, AreOverlayWords}
-use Rattle.patch_code.specs.StubLaws.{ImagesStand}
 use Rattle.patch_code.specs.Served.{HoldsCode, ServingStands, IsServedInside, OverlayStands}
 use Rattle.patch_code.proofs.Held.{held_front, held_behind}
-use Rattle.patch_code.proofs.Order.{ascend_from, below_fits}
+use Rattle.patch_code.proofs.Order.{ascend_from, below_fits, in_any_order}
 use Rattle.patch_code.proofs.Serves.{StandsAt, served_count, served_found, before_aligned}
-use Rattle.patch_code.proofs.Places.{images_found}
+use Rattle.patch_code.proofs.Places.{images_behind}
 
 control_words : (n : ℕ) (xs : List ℕ) → length (replicate n 0 ++ xs) ≡ n + length xs
 control_words zero xs = omega arith
@@ -93,31 +91,20 @@ module _ (p : OverlayPlan) (words : List ℕ) (are : AreOverlayWords p words) wh
     switch_stands = held_front mem (switch_at p) are.switch (concat p.images) from_switch
 
     pub stubs_stand : All (ServingStands p mem) p.stubs
-    stubs_stand k d below =
-        let stub = slice_index_or p.stubs k d in
-        let (j, inside, here) =
-        Contains-permutation p.stubs are.ordered stub are.by_home.same (k, below, get_or_default p.stubs k stub d below) in
-        let found =
-        served_found p.start.base (switch_at p) mem are.ordered are.served (serving_at p) j stub
+    stubs_stand =
+        in_any_order serving_home serving_size (StandsAt p.start.base (switch_at p) mem) (serving_at p) p.stubs are.ordered are.by_home.same (λ j d inside.
+        served_found p.start.base (switch_at p) mem are.ordered are.served (serving_at p) j d
         (ascend_from serving_home serving_size are.ordered are.by_home.ascend) are.serves
-        (held_front mem (serving_at p) are.served (are.switch ++ concat p.images) from_stubs) inside in
-        let same = sum_by-IsPermutation (bytes_if_before serving_home serving_size stub.home) p.stubs are.ordered are.by_home.same in
-        let there : StandsAt p.start.base (switch_at p) mem (serving_at p + served_before stub.home are.ordered) stub =
-        subst (λ (s : ServingStub). StandsAt p.start.base (switch_at p) mem (serving_at p + served_before s.home are.ordered) s) here found in
-        subst (λ n. StandsAt p.start.base (switch_at p) mem (serving_at p + n) stub) same there
-
-    pub images_stand : ImagesStand mem (overlay_images_at p) p.images
-    images_stand j below =
-        let count = switch_count in
-        images_found p.images mem (overlay_images_at p) j
-        (held_behind mem (switch_at p) (overlay_images_at p) are.switch (concat p.images) (omega (arith, count)) from_switch) below
+        (held_front mem (serving_at p) are.served (are.switch ++ concat p.images) from_stubs) inside)
 
 pub overlay_stands_so : OverlayStands
 overlay_stands_so =
     record {
       stubs = λ p words mem are held. stubs_stand p words are mem held;
       switch = λ p words mem are held. (are.switch, (are.switches, switch_stands p words are mem held));
-      images = λ p words mem are held. images_stand p words are mem held;
+      images = λ p words mem are held.
+          let count = switch_count p words are in
+          images_behind p.images mem (switch_at p) (overlay_images_at p) are.switch (omega (arith, count)) (from_switch p words are mem held);
       inside = served_inside;
       count = λ p words are. words_count p words are;
     }
