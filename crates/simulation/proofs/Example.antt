@@ -1,6 +1,6 @@
 -- The premises of a change of the region are met: two objects enter a region and leave it again. Nothing writes one of them,
 -- so it isn't brought back; its bytes stood still at home.
-use Rattle.std.proofs.Common.{inl, inr, ℕ, ◌+◌, ◌<◌, ◌==◌, ◌&&◌, if◌then◌else◌, Bool, true, false, nat_le, nat_lt, [], ◌∷◌, refl, arith}
+use Rattle.std.proofs.Common.{◌≡◌, inl, inr, ℕ, ◌+◌, ◌<◌, ◌==◌, ◌&&◌, if◌then◌else◌, Bool, true, false, nat_le, nat_lt, [], ◌∷◌, refl, arith}
 use Rattle.std.proofs.lemmas.Bool.{cases_eq}
 use Rattle.std.proofs.lemmas.Bool.Decides.{nat_tests}
 use Rattle.std.proofs.lemmas.List.Elements.{All-nil}
@@ -20,7 +20,7 @@ use Rattle.simulation.specs.Setups.{Setup, Sound}
 use Rattle.simulation.specs.Relation.{Alike}
 use Rattle.simulation.specs.Rules.{all_live}
 use Rattle.simulation.specs.Names.{NamesNone, StateNamesNone}
-use Rattle.simulation.specs.Changes.{moves, OthersStay, IsByteOf, ChangesRegion}
+use Rattle.simulation.specs.Changes.{moves, OthersStay, IsByteOf}
 use Rattle.simulation.specs.Unwritten.{AreUnwritten, HomesStandStill}
 use Rattle.simulation.proofs.Stays.{switched, places_decide}
 use Rattle.simulation.proofs.Homes.{home_too}
@@ -138,25 +138,34 @@ free : (from to : ℕ) → StateNamesNone (moves setup from to) (all_live 1024) 
 free from to =
     record { regs = λ k lives. zero_names (moves setup from to) (k == 0); fixed = λ a. tt; cells = λ o i. tt }
 
--- ---- into the region: both are copied
-enters : ChangesRegion program setup all_live 0 1 1024 (with_memory at_home) (with_memory in_region)
-enters =
-    record {
+-- only memory changes
+changed : (from to : ℕ) (mem new : Memory) → Alike program setup all_live from 1024 source at_start (with_memory mem)
+    → ((a : ℕ) → program.is_fixed a ≡ true → new a ≡ mem a)
+    → ((o i : ℕ) → i < objects.size o → IsByteOf program setup from mem o i (new (places to o + i)))
+    → ((a : ℕ) → setup.is_still to a ≡ true → new a ≡ 7)
+    → ((a : ℕ) → new a < 256)
+    → Alike program setup all_live to 1024 source at_start (with_memory new)
+changed from to mem new before fixed objects still small =
+    switched program setup all_live (moves setup from to) from to 1024 source at_start (with_memory mem) (with_memory new) before
+    (home_too program setup all_live from 1024 source source at_start at_start (with_memory mem) before unwritten (homes_stand from))
+    (others from to) (free from to)
+    (record {
       regs = λ k lives. refl;
-      fixed = λ a is. grind (arith, nat_tests);
-      objects = λ o i below. inl (grind (arith, nat_tests));
-      still = λ a is. grind (arith, nat_tests);
+      fixed = fixed;
+      objects = objects;
+      still = still;
       map = refl;
       outcome = refl;
       input = refl;
       output = refl;
-    }
+    })
+    (bytes_fit new small)
 
+-- ---- into the region: both are copied
 entered : Alike program setup all_live 1 1024 source at_start (with_memory in_region)
 entered =
-    switched program setup all_live (moves setup 0 1) 0 1 1024 source at_start (with_memory at_home) (with_memory in_region)
-    starts_alike (home_too program setup all_live 0 1024 source source at_start at_start (with_memory at_home) starts_alike unwritten (homes_stand 0))
-    (others 0 1) (free 0 1) enters (bytes_fit in_region (λ a. grind (arith, nat_tests)))
+    changed 0 1 at_home in_region starts_alike (λ a is. grind (arith, nat_tests)) (λ o i below. inl (grind (arith, nat_tests)))
+    (λ a is. grind (arith, nat_tests)) (λ a. grind (arith, nat_tests))
 
 -- ---- and out of it: object 0 is copied back, and object 1 is at home
 abbrev out_again : Memory
@@ -169,21 +178,6 @@ back o i below =
       | inr other ↦ inr (grind (arith, nat_tests), grind (arith, nat_tests))
     ]
 
-leaves : ChangesRegion program setup all_live 1 0 1024 (with_memory in_region) (with_memory out_again)
-leaves =
-    record {
-      regs = λ k lives. refl;
-      fixed = λ a is. grind (arith, nat_tests);
-      objects = back;
-      still = λ a is. cc;
-      map = refl;
-      outcome = refl;
-      input = refl;
-      output = refl;
-    }
-
 left : Alike program setup all_live 0 1024 source at_start (with_memory out_again)
 left =
-    switched program setup all_live (moves setup 1 0) 1 0 1024 source at_start (with_memory in_region) (with_memory out_again)
-    entered (home_too program setup all_live 1 1024 source source at_start at_start (with_memory in_region) entered unwritten (homes_stand 1))
-    (others 1 0) (free 1 0) leaves (bytes_fit out_again (λ a. grind (arith, nat_tests)))
+    changed 1 0 in_region out_again entered (λ a is. grind (arith, nat_tests)) back (λ a is. cc) (λ a. grind (arith, nat_tests))

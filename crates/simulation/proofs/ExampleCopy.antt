@@ -39,7 +39,7 @@ use Rattle.simulation.proofs.Steps.{value_zero, register_zero, does_words}
 use Rattle.simulation.proofs.Controls.{word_runs}
 use Rattle.simulation.proofs.AnyRegions.{ways_arrive}
 use Rattle.simulation.proofs.Resets.{all_made, moved_code_keeps}
-use Rattle.simulation.proofs.ExampleParts.{bare, begun, loaded, number_holds, alike_at_start}
+use Rattle.simulation.proofs.ExampleParts.{bare, word_of, one_range, begun, loaded, number_holds, alike_at_start}
 
 -- ---- the program: AUIPC x6, 0 and ADDI x17, x0, 93 are a block, and JAL x0, -8 is another
 
@@ -64,29 +64,24 @@ place o = 64
 -- at home a pad, JAL x0, 104, in place of the AUIPC, and the JAL; the stub, LUI x5, 2 and JALR x0, 0(x5); and the copy: LUI
 -- x6, 1 and ADDI x6, x6, 0 for the AUIPC, the ADDI, and LUI x5, 1 and JALR x0, 8(x5), which fall out of it
 abbrev placed_word : ℕ → ℕ
-placed_word a =
-    if a == 4096 then 109052015
-    else (if a == 4104 then 4288671855
-    else (if a == 4200 then 8887
-    else (if a == 4204 then 163943
-    else (if a == 8192 then 4919
-    else (if a == 8196 then 197395
-    else (if a == 8200 then 97519763
-    else (if a == 8204 then 4791
-    else (if a == 8208 then 8552551 else 0))))))))
+placed_word =
+    word_of
+    ((4096, 109052015)
+    ∷ (4104, 4288671855)
+    ∷ (4200, 8887)
+    ∷ (4204, 163943)
+    ∷ (8192, 4919)
+    ∷ (8196, 197395)
+    ∷ (8200, 97519763)
+    ∷ (8204, 4791)
+    ∷ (8208, 8552551)
+    ∷ [])
 
 abbrev code_byte : Memory
 code_byte a = byte_of (placed_word (a / 4 * 4)) (a % 4)
 
 abbrev setup : Setup
-setup =
-    record {
-      map = record { base = 4096; size = 8192 } ∷ [];
-      place = λ r. place;
-      upper = λ r. moved_uppers place;
-      is_still = λ r a. nat_le 4096 a && nat_lt a 8212;
-      still = λ r. code_byte;
-    }
+setup = one_range 4096 8192 8212 place (moved_uppers place) code_byte
 
 -- x5 never matters
 abbrev live : ℕ → ℕ → Type 0

@@ -1,5 +1,5 @@
 -- What the examples share: a program without sites, states at the start, and when such states are alike.
-use Rattle.std.proofs.Common.{◌≡◌, ℕ, ◌+◌, ◌<◌, Bool, true, false, if◌then◌else◌, [], ◌∷◌, None, refl, arith}
+use Rattle.std.proofs.Common.{◌≡◌, ℕ, ◌+◌, ◌<◌, ◌==◌, ◌&&◌, nat_le, nat_lt, Bool, true, false, if◌then◌else◌, List, [], ◌∷◌, None, refl, arith}
 use Rattle.rv32im.specs.Acts.{register}
 use Rattle.rv32im.specs.Memory.{Memory}
 use Rattle.flat_machine.specs.declared.events.FlatOutcome as flat
@@ -33,6 +33,32 @@ bare objects word =
       falls = λ a. false;
       is_fixed = λ a. false;
       is_held = λ a. false;
+    }
+
+-- the word that a table has for an address, or 0
+abbrev pub word_of : List (ℕ × ℕ) → ℕ → ℕ
+word_of [] a = 0
+word_of (row ∷ rows) a = if a == row.0 then row.1 else word_of rows a
+
+-- one object, which can be written, of 16 bytes
+abbrev pub one_object : (home : ℕ) → Objects
+one_object home =
+    record {
+      grain = 16;
+      home = λ o. if o == 0 then home else 64;
+      size = λ o. if o == 0 then 16 else 0;
+      writable = λ o. o == 0;
+    }
+
+-- the same places in each region, and one mapped range, which begins with the code
+abbrev pub one_range : (base size code_ends : ℕ) → Places → Uppers → (code : Memory) → Setup
+one_range base size code_ends place up code =
+    record {
+      map = record { base = base; size = size } ∷ [];
+      place = λ r. place;
+      upper = λ r. up;
+      is_still = λ r a. nat_le base a && nat_lt a code_ends;
+      still = λ r. code;
     }
 
 -- all registers and bytes are 0

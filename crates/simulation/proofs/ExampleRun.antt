@@ -1,5 +1,5 @@
 -- The premises of the law of runs can be met: a program of six words, whose only object was moved.
-use Rattle.std.proofs.Common.{◌≡◌, ◌⊎◌, inl, inr, ℕ, ◌+◌, ◌*◌, ◌/◌, ◌%◌, ◌<◌, ◌≤◌, ◌==◌, nat_lt, nat_le, true, false, ◌&&◌, ◌||◌, if◌then◌else◌, [], ◌∷◌, Option, Some, None, pos, refl, sym, subst, arith}
+use Rattle.std.proofs.Common.{◌≡◌, ◌⊎◌, inl, inr, ℕ, ◌+◌, ◌*◌, ◌/◌, ◌%◌, ◌<◌, ◌≤◌, ◌==◌, nat_lt, nat_le, true, false, ◌&&◌, ◌||◌, if◌then◌else◌, Option, Some, None, pos, refl, sym, subst, arith}
 use Rattle.std.proofs.lemmas.Grind.{common_steps}
 use Rattle.std.proofs.lemmas.Bool.{cond_both, eqb-true}
 use Rattle.std.proofs.lemmas.Bool.Decides.{nat_tests}
@@ -27,7 +27,7 @@ use Rattle.simulation.specs.Rules.{all_live, UnitAt}
 use Rattle.simulation.specs.Laws.{IsUnit, OfBlock, ReachedBy, Behind, AllAtHome, Keeps}
 use Rattle.simulation.proofs.AtHome.{runs_at_home, start_value}
 use Rattle.simulation.proofs.Completes.{pair_completes}
-use Rattle.simulation.proofs.ExampleParts.{bare, begun, loaded, number_stands, number_holds, alike_at_start}
+use Rattle.simulation.proofs.ExampleParts.{bare, one_object, one_range, begun, loaded, number_stands, number_holds, alike_at_start}
 
 -- ---- the program: an address, a call of two words, and the exit
 
@@ -43,13 +43,7 @@ abbrev target : Target
 target = record { object = 0; offset = 0 }
 
 abbrev objects : Objects
-objects =
-    record {
-      grain = 16;
-      home = λ o. if o == 0 then 8192 else 64;
-      size = λ o. if o == 0 then 16 else 0;
-      writable = λ o. o == 0;
-    }
+objects = one_object 8192
 
 abbrev program : Program
 program =
@@ -76,14 +70,7 @@ abbrev code_byte : Memory
 code_byte a = byte_of (placed_word (a / 4 * 4)) (a % 4)
 
 abbrev setup : Setup
-setup =
-    record {
-      map = record { base = 4096; size = 20480 } ∷ [];
-      place = λ r. place;
-      upper = λ r. kept_uppers place;
-      is_still = λ r a. nat_le 4096 a && nat_lt a 4120;
-      still = λ r. code_byte;
-    }
+setup = one_range 4096 20480 4120 place (kept_uppers place) code_byte
 
 sound : Sound program setup 0
 sound =

@@ -1,6 +1,6 @@
 -- The premises of runs are met: a program of four units writes into an object that stands 4096 bytes behind its
 -- home, reads what it wrote, and exits with it.
-use Rattle.std.proofs.Common.{◌≡◌, ◌⊎◌, inl, inr, ℕ, ◌+◌, ◌*◌, ◌<◌, ◌≤◌, ◌==◌, if◌then◌else◌, Bool, true, false, ◌&&◌, nat_le, nat_lt, Option, Some, None, [], ◌∷◌, refl, sym, subst, arith}
+use Rattle.std.proofs.Common.{◌≡◌, ◌⊎◌, inl, inr, ℕ, ◌+◌, ◌*◌, ◌<◌, ◌≤◌, ◌==◌, if◌then◌else◌, Bool, true, false, ◌&&◌, nat_le, nat_lt, Option, Some, None, [], refl, sym, subst, arith}
 use Rattle.std.specs.Prelude.{pos}
 use Rattle.std.proofs.lemmas.Bool.{eqb-true}
 use Rattle.std.proofs.lemmas.Bool.Decides.{nat_tests}
@@ -37,18 +37,12 @@ use Rattle.simulation.specs.Laws.{Keeps, IsUnit, AllAtHome}
 use Rattle.simulation.specs.Laws.IsUnit.{OfBlock, ReachedBy, Behind}
 use Rattle.simulation.proofs.AtHome.{runs_at_home}
 use Rattle.simulation.proofs.Completes.{moved_completes}
-use Rattle.simulation.proofs.ExampleParts.{bare, begun, loaded, number_stands, number_holds, alike_at_start}
+use Rattle.simulation.proofs.ExampleParts.{bare, one_object, one_range, begun, loaded, number_stands, number_holds, alike_at_start}
 
 -- ---- the program: one object of 16 bytes with home 4096, fixed memory at 2048, and from 1024 on LUI x5 and
 -- SW x6, 4(x5), LW x10, 4(x5), which are sites of the object's byte 4, and ECALL
 abbrev objects : Objects
-objects =
-    record {
-      grain = 16;
-      home = λ o. if o == 0 then 4096 else 64;
-      size = λ o. if o == 0 then 16 else 0;
-      writable = λ o. o == 0;
-    }
+objects = one_object 4096
 
 abbrev target : Target
 target = record { object = 0; offset = 4 }
@@ -77,14 +71,7 @@ abbrev code : Memory
 code = put_word (put_word (put_word (put_word zeros 1024 8887) 1028 6464035) 1032 4367619) 1036 115
 
 abbrev setup : Setup
-setup =
-    record {
-      map = record { base = 1024; size = 16384 } ∷ [];
-      place = λ r. place;
-      upper = λ r. moved_uppers place;
-      is_still = λ r a. nat_le 1024 a && nat_lt a 1040;
-      still = λ r. code;
-    }
+setup = one_range 1024 16384 1040 place (moved_uppers place) code
 
 objects_fit : Fit objects place
 objects_fit =

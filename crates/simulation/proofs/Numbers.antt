@@ -1,9 +1,10 @@
 -- Operations on registers and immediates, and fences.
 use Rattle.std.proofs.Common.{◌≡◌, ℕ, true, false, not, ◌&&◌, List, Option, Some, None, ℤ, refl, ap, subst, arith, ◌+◌}
 use Rattle.list_checks.proofs.TestLemmas.{both, not_true}
-use Rattle.rv32im.specs.Words.{offset}
+use Rattle.std.specs.Prelude.{Contains}
+use Rattle.rv32im.specs.Words.{plus, offset}
 use Rattle.rv32im.specs.Table.{Means, IsImmInRange}
-use Rattle.rv32im.specs.Acts.{register, with_register, imm_value, reg_value}
+use Rattle.rv32im.specs.Acts.{register, with_register, imm_value, reg_value, defined}
 use Rattle.rv32im.specs.declared.instructions.Instr.{Instr}
 use Rattle.rv32im.specs.declared.instructions.Instr.TheVariants.{OpImm, OpReg, Fence, FenceI}
 use Rattle.rv32im.specs.declared.instructions.ImmKind.{ImmKind}
@@ -12,7 +13,9 @@ use Rattle.rv32im.specs.declared.instructions.RegKind.{RegKind}
 use Rattle.rv32im.proofs.WordLemmas.{keeps_words}
 use Rattle.rv32im.proofs.WordLemmas.{imm_fits}
 use Rattle.flat_machine.specs.declared.events.FlatEvent.{FlatEvent}
+use Rattle.flat_machine.specs.Lines.{went}
 use Rattle.flat_machine.specs.State.{State}
+use Rattle.flat_machine.specs.Step.{performed}
 use Rattle.rv32im.specs.Operations.{operation_of}
 use Rattle.cell_values.specs.Operations.{op_imm, op_reg, low_site}
 use Rattle.cell_values.specs.declared.values.Val.TheVariants.{Int}
@@ -22,13 +25,14 @@ use Rattle.cell_values.proofs.OperationWords.{operations_stand}
 use Rattle.cell_values.proofs.ImmediateWords.{immediates_stand}
 use Rattle.cell_values.proofs.Keeps.{sites_keep_words}
 use Rattle.object_machine.specs.Program.{Program, Target}
-use Rattle.object_machine.specs.State.{SourceState, value}
+use Rattle.object_machine.specs.State.{SourceState, value, wrote}
+use Rattle.object_machine.specs.Flow.{falls_on}
 use Rattle.object_machine.specs.Step.{Reads, acts, next_state}
-use Rattle.object_machine.specs.Paired.{Origins, origins_after, finds_named, is_paired_site, uses_base}
+use Rattle.object_machine.specs.Paired.{Origins, origins_by, origins_after, finds_named, is_paired_site, uses_base}
 use Rattle.simulation.specs.Setups.{Setup}
 use Rattle.simulation.specs.Units.{StandsAt}
 use Rattle.simulation.specs.Relation.{LeadsTold}
-use Rattle.simulation.specs.Forms.{ActsAs}
+use Rattle.simulation.specs.Forms.{ActsFor, ActsAs, IsFollowed}
 use Rattle.simulation.proofs.OneUnit.{StepPremises, StepsAs}
 use Rattle.simulation.proofs.Steps.{Operand, reads_on, one_read, first_read, second_read, one_written, none_written, paired_by, with_writes}
 use Rattle.simulation.proofs.Effects.{itself, no_writes, falls_both}
@@ -94,22 +98,24 @@ module _ (p : Program) (l : Setup) (live arrive : ℕ → ℕ → Type 0) (tells
       (op_reg p.objects kind (value s.regs rs1) (value s.regs rs2)) m.regs there.0 i (with_register t.hart.regs rd w)
       (one_written rd) (λ k other. refl) refl there.1.1.0 here (with_writes (live (s.pc + 4)) t.hart.regs rd w) is holds refl refl
 
-  pub fence_steps : (bits : ℕ) → StepsAs p l live arrive tells r s m t (Fence bits)
-  fence_steps bits single premises reads paired =
-      let i : Instr = Fence bits in
+  -- an instruction that stands for itself and writes nothing: both go to the next word
+  idle_steps : (i : Instr) → IsFollowed i → ((k : ℕ) → Contains (defined i) k → ⊥)
+      → ((j : Instr) → ActsFor p arrive s.pc t.hart.pc i j → j ≡ i)
+      → ((g : Target) (j : Instr) → ActsAs p l arrive r s.pc t.hart.pc (Some g) i j → j ≡ i)
+      → origins_by p s m i ≡ m
+      → acts p s i (p.site s.pc) ≡ falls_on p s (wrote s 0 (Int 0))
+      → performed t i ≡ went t t.hart.regs (plus t.hart.pc 4)
+      → StepsAs p l live arrive tells r s m t i
+  idle_steps i follows none plain sited by effect does single premises reads paired =
       let there = premises.unit.one (Some i) single reads in
-      let same = itself p l arrive r s.pc t.hart.pc i (λ j. j ≡ i) (λ j e. e) (λ g j e. e) (p.site s.pc) there.1.0 there.1.1.1.1.1 in
+      let same = itself p l arrive r s.pc t.hart.pc i (λ j. j ≡ i) plain sited (p.site s.pc) there.1.0 there.1.1.1.1.1 in
       let here : Means there.0 i = subst (λ y. Means there.0 y) same there.1.1.1.0 in
-      falls_both p l live arrive tells r s m t i premises single reads tt 0 0 (Int 0) m.regs there.0 i t.hart.regs
-      (λ k has. absurd (none_written k has)) (λ k other. refl) refl there.1.1.0 here (no_writes (live (s.pc + 4)) t.hart.regs) refl
-      (omega arith) refl refl
+      falls_both p l live arrive tells r s m t i premises single reads follows 0 0 (Int 0) m.regs there.0 i t.hart.regs
+      (λ k has. absurd (none k has)) (λ k other. refl) by there.1.1.0 here (no_writes (live (s.pc + 4)) t.hart.regs) refl
+      (omega arith) effect does
+
+  pub fence_steps : (bits : ℕ) → StepsAs p l live arrive tells r s m t (Fence bits)
+  fence_steps bits = idle_steps (Fence bits) tt (λ k has. none_written k has) (λ j e. e) (λ g j e. e) refl refl refl
 
   pub fence_i_steps : (bits : ℕ) → StepsAs p l live arrive tells r s m t (FenceI bits)
-  fence_i_steps bits single premises reads paired =
-      let i : Instr = FenceI bits in
-      let there = premises.unit.one (Some i) single reads in
-      let same = itself p l arrive r s.pc t.hart.pc i (λ j. j ≡ i) (λ j e. e) (λ g j e. e) (p.site s.pc) there.1.0 there.1.1.1.1.1 in
-      let here : Means there.0 i = subst (λ y. Means there.0 y) same there.1.1.1.0 in
-      falls_both p l live arrive tells r s m t i premises single reads tt 0 0 (Int 0) m.regs there.0 i t.hart.regs
-      (λ k has. absurd (none_written k has)) (λ k other. refl) refl there.1.1.0 here (no_writes (live (s.pc + 4)) t.hart.regs) refl
-      (omega arith) refl refl
+  fence_i_steps bits = idle_steps (FenceI bits) tt (λ k has. none_written k has) (λ j e. e) (λ g j e. e) refl refl refl

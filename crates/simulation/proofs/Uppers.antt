@@ -6,7 +6,9 @@ use Rattle.rv32im.specs.Acts.{with_register}
 use Rattle.rv32im.specs.declared.instructions.Instr.{Instr}
 use Rattle.rv32im.specs.declared.instructions.Instr.TheVariants.{Lui, Auipc}
 use Rattle.flat_machine.specs.declared.events.FlatEvent.{FlatEvent}
+use Rattle.flat_machine.specs.Lines.{went}
 use Rattle.flat_machine.specs.State.{State}
+use Rattle.flat_machine.specs.Step.{performed}
 use Rattle.cell_values.specs.declared.values.Val.TheVariants.{Int, Hi}
 use Rattle.cell_values.specs.Origins.{ByLui, ByAuipc}
 use Rattle.cell_values.specs.Stands.{Stands}
@@ -47,30 +49,26 @@ module _ (p : Program) (l : Setup) (live arrive : ℕ → ℕ → Type 0) (tells
       let there = premises.unit.one (Some (Lui rd n)) single reads in
       lui_at rd n premises single reads (p.site s.pc) refl there.0 there.1.0 there.1.1.0 there.1.1.1.0 there.1.1.1.1.1
 
+  -- where one word makes the upper part of an address
+  auipc_made : (rd n : ℕ) → StepPremises p l live arrive tells r s m t → p.is_pair s.pc ≡ false → Reads (p.word s.pc) (Some (Auipc rd n)) → (g : Target) → p.site s.pc ≡ Some g → (code : ℕ) (j : Instr) (w : ℕ) → StandsAt l r t.hart.pc code → Means code j → Stands p.objects (l.place r) (l.upper r) (ByAuipc s.pc) (Hi g.object g.offset) w → performed t j ≡ went t (with_register t.hart.regs rd w) (plus t.hart.pc 4) → LeadsTold tells p l live arrive r (next_state p s (Some (Auipc rd n))) (origins_after p s m (Some (Auipc rd n))) t
+  auipc_made rd n premises single reads g at code j w stands means here does =
+      let is : Stands p.objects (l.place r) (l.upper r) (put_at m.regs rd (ByAuipc s.pc) rd) (Hi g.object g.offset) w =
+      rw (put_there m.regs rd (ByAuipc s.pc)) here in
+      falls_both p l live arrive tells r s m t (Auipc rd n) premises single reads tt rd w (Hi g.object g.offset)
+      (put_at m.regs rd (ByAuipc s.pc)) code j (with_register t.hart.regs rd w) (one_written rd)
+      (put_other m.regs rd (ByAuipc s.pc)) refl stands means (with_writes (live (s.pc + 4)) t.hart.regs rd w) is
+      (premises.before.sound.sites s.pc g at) (ap (λ q. acts p s (Auipc rd n) q) at) does
+
   auipc_at : (rd n : ℕ) → StepPremises p l live arrive tells r s m t → p.is_pair s.pc ≡ false → Reads (p.word s.pc) (Some (Auipc rd n)) → (site : Option Target) → p.site s.pc ≡ site → (code : ℕ) (j : Instr) → StandsAt l r t.hart.pc code → Means code j → ActsAs p l arrive r s.pc t.hart.pc site (Auipc rd n) j → LeadsTold tells p l live arrive r (next_state p s (Some (Auipc rd n))) (origins_after p s m (Some (Auipc rd n))) t
   auipc_at rd n premises single reads None at code j stands means for =
       auipc_none p l live arrive tells r s m t rd n at premises single reads code stands
       (subst (λ y. Means code y) for.0 means) for.1
   auipc_at rd n premises single reads (Some g) at code j stands means (inl for) =
-      let z = for.0 in
-      let here : Means code (Auipc rd z) = subst (λ y. Means code y) for.1.0 means in
-      let w : ℕ = plus t.hart.pc (z * 4096) in
-      let is : Stands p.objects (l.place r) (l.upper r) (put_at m.regs rd (ByAuipc s.pc) rd) (Hi g.object g.offset) w =
-      rw (put_there m.regs rd (ByAuipc s.pc)) for.1.1 in
-      falls_both p l live arrive tells r s m t (Auipc rd n) premises single reads tt rd w (Hi g.object g.offset)
-      (put_at m.regs rd (ByAuipc s.pc)) code (Auipc rd z) (with_register t.hart.regs rd w) (one_written rd)
-      (put_other m.regs rd (ByAuipc s.pc)) refl stands here (with_writes (live (s.pc + 4)) t.hart.regs rd w) is
-      (premises.before.sound.sites s.pc g at) (ap (λ q. acts p s (Auipc rd n) q) at) refl
+      auipc_made rd n premises single reads g at code (Auipc rd for.0) (plus t.hart.pc (for.0 * 4096)) stands
+      (subst (λ y. Means code y) for.1.0 means) for.1.1 refl
   auipc_at rd n premises single reads (Some g) at code j stands means (inr for) =
-      let z = for.0 in
-      let here : Means code (Lui rd z) = subst (λ y. Means code y) for.1.0 means in
-      let w : ℕ = z * 4096 % 4294967296 in
-      let is : Stands p.objects (l.place r) (l.upper r) (put_at m.regs rd (ByAuipc s.pc) rd) (Hi g.object g.offset) w =
-      rw (put_there m.regs rd (ByAuipc s.pc)) for.1.1 in
-      falls_both p l live arrive tells r s m t (Auipc rd n) premises single reads tt rd w (Hi g.object g.offset)
-      (put_at m.regs rd (ByAuipc s.pc)) code (Lui rd z) (with_register t.hart.regs rd w) (one_written rd)
-      (put_other m.regs rd (ByAuipc s.pc)) refl stands here (with_writes (live (s.pc + 4)) t.hart.regs rd w) is
-      (premises.before.sound.sites s.pc g at) (ap (λ q. acts p s (Auipc rd n) q) at) refl
+      auipc_made rd n premises single reads g at code (Lui rd for.0) (for.0 * 4096 % 4294967296) stands
+      (subst (λ y. Means code y) for.1.0 means) for.1.1 refl
 
   pub auipc_steps : (rd n : ℕ) → StepsAs p l live arrive tells r s m t (Auipc rd n)
   auipc_steps rd n single premises reads paired =
