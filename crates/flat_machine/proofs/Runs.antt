@@ -1,5 +1,5 @@
 -- Laws of runs.
-use Rattle.std.proofs.Common.{◌≡◌, ℕ, zero, suc, ◌+◌, List, [], ◌∷◌, ◌++◌, length, refl, sym, ◌∙◌, ap, subst, arith}
+use Rattle.std.proofs.Common.{◌≡◌, ℕ, zero, suc, ◌+◌, ◌-◌, ◌<◌, ◌≤◌, List, [], ◌∷◌, ◌++◌, length, refl, sym, ◌∙◌, ap, subst, arith}
 use Rattle.std.specs.Prelude.{Bool, IsTrue, true, false, Option, Some, None}
 use Rattle.std.specs.Bool.{MatchBool}
 use Rattle.rv32im.specs.Memory.{word_at}
@@ -12,6 +12,7 @@ use Rattle.flat_machine.specs.Mapping.{can_access}
 use Rattle.flat_machine.specs.State.{State, trap}
 use Rattle.flat_machine.specs.Step.{performed, event_of, Reads, next_state, next_access, Performs, ReadsNothing, StepAt, Step}
 use Rattle.flat_machine.specs.Runs.{Does, Steps, HasEnded}
+use Rattle.flat_machine.specs.Known.{TakesStep}
 
 -- ---- a step by what the word means
 
@@ -51,6 +52,20 @@ steps_cut (suc j) k s t r =
 -- one step more at the end
 pub steps_more : (n : ℕ) (s m t : State) (e : FlatEvent) → Steps n s m → Step m e t → Steps (n + 1) s t
 steps_more n s m t e r q = steps_joined n 1 s m t r (t, ((e, q), refl))
+
+-- ---- a loop over the number of steps that are left
+
+-- the steps so far, and those of a stretch that leaves fewer
+pub steps_left : (n before left : ℕ) (s m t : State) → before ≤ n → left ≤ before → Steps (n - before) s m → Steps (before - left) m t → Steps (n - left) s t
+steps_left n before left s m t few fewer so_far more =
+    let sum : (n - before) + (before - left) ≡ n - left = omega arith in
+    subst (λ k. Steps k s t) sum (steps_joined (n - before) (before - left) s m t so_far more)
+
+-- the steps so far, and the next one
+pub next_left : (n left : ℕ) (s m t : State) → 0 < left → left ≤ n → Steps (n - left) s m → TakesStep m t → Steps (n - (left - 1)) s t
+next_left n left s m t some few so_far step =
+    let sum : (n - left) + 1 ≡ n - (left - 1) = omega arith in
+    subst (λ k. Steps k s t) sum (steps_more (n - left) s m t step.1.event so_far step.1.step)
 
 -- ---- events and steps
 
@@ -95,6 +110,12 @@ pub ended_any_steps : (n : ℕ) (s : State) → HasEnded s.outcome → Steps n s
 ended_any_steps zero s h = refl
 ended_any_steps (suc n) s h =
     (s, ((record { at = s.hart.pc; outcome = s.outcome; word = 0; access = None }, ended_takes s.outcome s h), ended_any_steps n s h))
+
+-- it takes those that are left and stays as it is
+pub ended_left : (n left : ℕ) (s t : State) → left ≤ n → Steps (n - left) s t → HasEnded t.outcome → Steps n s t
+ended_left n left s t few so_far ended =
+    let sum : (n - left) + left ≡ n = omega arith in
+    subst (λ k. Steps k s t) sum (steps_joined (n - left) left s t t so_far (ended_any_steps left t ended))
 
 -- ---- the machine has no choice
 
