@@ -257,16 +257,13 @@ sum_fits edges starts a value j from end total more e ordered are first last low
     let part = part_leaves edges a value j below in
     omega (arith, sum, here, one, part)
 
-pub all_edges : (edges : List Edge) (starts : List ℕ) (a : ℕ) (value : ℕ → ℕ) (from end j total : ℕ) → AreOrdered edges → AreEdgeStarts edges a starts → from ≡ slice_index_or starts a 0 → end ≡ slice_index_or starts (a + 1) 0 → j ≡ end → total ≡ sum_below (edge_value edges a value) j → total ≡ leaving edges a value
+pub all_edges : (edges : List Edge) (starts : List ℕ) (a : ℕ) (value : ℕ → ℕ) (from end j total : ℕ) → AreOrdered edges → AreEdgeStarts edges a starts → from ≡ slice_index_or starts a 0 → end ≡ slice_index_or starts (a + 1) 0 → (from ≤ end → j ≡ end) → total ≡ sum_below (edge_value edges a value) j → total ≡ leaving edges a value
 all_edges edges starts a value from end j total ordered are first last done sum =
-    sum ∙ (ap (sum_below (edge_value edges a value)) (done ∙ (last ∙ are.to)) ∙ sym (leaving_ends edges a value ordered))
-
-pub rises : (edges : List Edge) (starts : List ℕ) (a from end : ℕ) → AreOrdered edges → AreEdgeStarts edges a starts → from ≡ slice_index_or starts a 0 → end ≡ slice_index_or starts (a + 1) 0 → from ≤ end
-rises edges starts a from end ordered are first last =
     let begins = are.from in
     let ends = are.to in
     let order = starts_rise edges a ordered in
-    omega (arith, first, last, begins, ends, order)
+    let at_end : j ≡ end = done (omega (arith, first, last, begins, ends, order)) in
+    sum ∙ (ap (sum_below (edge_value edges a value)) (at_end ∙ (last ∙ are.to)) ∙ sym (leaving_ends edges a value ordered))
 
 pub edge_within : (edges : List Edge) (c : Code) (j : ℕ) (e : Edge) → j < length edges → All (λ e. (e.from < length c.blocks.items) × (e.to < length c.blocks.items)) edges → e ≡ slice_index_or edges j e → e.to < length c.blocks.items
 edge_within edges c j e below within is =

@@ -25,7 +25,7 @@ use Rattle.energy_model.specs.Priced.{direction_price}
 use Rattle.energy_model.specs.Together.{taken}
 use Rattle.energy_model.specs.Overlay.{reads_in, writes_in, accesses_price, of_both, kept_copies, KeptIsCounted}
 use Rattle.energy_model.proofs.SceneLemmas.{Follows, follows}
-use Rattle.energy_model.proofs.SumLemmas.{sum_two}
+use Rattle.energy_model.proofs.SumLemmas.{sum_two, sum_moved}
 use Rattle.energy_model.proofs.EnergyLemmas.{current_fits}
 use Rattle.energy_model.proofs.ChangeLemmas.{changes_counted}
 use Rattle.energy_model.proofs.TogetherLemmas.{touch, jobs, slow_price, fast_price, step_more}
@@ -228,21 +228,12 @@ module _ (view : ElfView) (board : Board) (g : Graph) (c : Code) (t : RegionTabl
 
 steps_kept : (w : Scene) (ms : List Transition) (pair o : ℕ) → Follows w ms → steps_energy w (taken true (KeptData pair o ∷ [])) ms + sum_below (kept_touch_at w ms false pair o) (length ms) ≡ steps_energy w (taken true []) ms + sum_below (kept_touch_at w ms true pair o) (length ms) + sum_below (changed_at (λ s k. jobs w s k (KeptData pair o)) w ms) (length ms)
 steps_kept w ms pair o all =
-    let n = length ms in
-    let f = step_energy w (taken true (KeptData pair o ∷ [])) ms in
-    let g = step_energy w (taken true []) ms in
-    let slow = kept_touch_at w ms false pair o in
-    let fast = kept_touch_at w ms true pair o in
-    let copies = changed_at (λ s k. jobs w s k (KeptData pair o)) w ms in
-    let same = sum_same (λ i. f i + slow i) (λ i. g i + fast i + copies i) n (λ i below.
+    sum_moved (step_energy w (taken true (KeptData pair o ∷ [])) ms) (kept_touch_at w ms false pair o) (step_energy w (taken true []) ms) (kept_touch_at w ms true pair o) (changed_at (λ s k. jobs w s k (KeptData pair o)) w ms) (length ms)
+    (λ i below.
     let step = step_more w true (KeptData pair o) [] ms i all below tt in
-    let slow_is : slow_price w true ms (KeptData pair o) i ≡ slow i + 0 = refl in
-    let fast_is : fast_price w true ms (KeptData pair o) i ≡ fast i + 0 + copies i = refl in
-    omega (arith, step, slow_is, fast_is)) in
-    let left = sum_two f slow n in
-    let right = sum_two (λ i. g i + fast i) copies n in
-    let inner = sum_two g fast n in
-    omega (arith, same, left, right, inner)
+    let slow_is : slow_price w true ms (KeptData pair o) i ≡ kept_touch_at w ms false pair o i + 0 = refl in
+    let fast_is : fast_price w true ms (KeptData pair o) i ≡ kept_touch_at w ms true pair o i + 0 + changed_at (λ s k. jobs w s k (KeptData pair o)) w ms i = refl in
+    omega (arith, step, slow_is, fast_is))
 
 pub kept_counted : OneInstruction → KeptIsCounted
 kept_counted one view board g c t q ms pair o given some within object =

@@ -23,7 +23,7 @@ use Rattle.energy_model.specs.Priced.{direction_price}
 use Rattle.energy_model.specs.Together.{taken}
 use Rattle.energy_model.specs.Overlay.{reads_in, writes_in, accesses_price, object_copies, ObjectIsCounted}
 use Rattle.energy_model.proofs.SceneLemmas.{Follows, follows}
-use Rattle.energy_model.proofs.SumLemmas.{sum_two}
+use Rattle.energy_model.proofs.SumLemmas.{sum_two, sum_moved}
 use Rattle.energy_model.proofs.PlaceLemmas.{single}
 use Rattle.energy_model.proofs.EnergyLemmas.{current_fits}
 use Rattle.energy_model.proofs.CountsLemmas.{sum_times}
@@ -140,21 +140,12 @@ copies_counted view board g c t q ms r o given region =
 
 steps_object : (w : Scene) (ms : List Transition) (r o : ℕ) → Follows w ms → steps_energy w (taken true (OverlayData r o ∷ [])) ms + sum_below (touch_at w ms false r o) (length ms) ≡ steps_energy w (taken true []) ms + sum_below (touch_at w ms true r o) (length ms) + sum_below (copies_at w ms r o) (length ms)
 steps_object w ms r o all =
-    let n = length ms in
-    let f = step_energy w (taken true (OverlayData r o ∷ [])) ms in
-    let g = step_energy w (taken true []) ms in
-    let slow = touch_at w ms false r o in
-    let fast = touch_at w ms true r o in
-    let copies = copies_at w ms r o in
-    let same = sum_same (λ i. f i + slow i) (λ i. g i + fast i + copies i) n (λ i below.
+    sum_moved (step_energy w (taken true (OverlayData r o ∷ [])) ms) (touch_at w ms false r o) (step_energy w (taken true []) ms) (touch_at w ms true r o) (copies_at w ms r o) (length ms)
+    (λ i below.
     let step = step_more w true (OverlayData r o) [] ms i all below tt in
-    let slow_is : slow_price w true ms (OverlayData r o) i ≡ slow i + 0 = refl in
-    let fast_is : fast_price w true ms (OverlayData r o) i ≡ fast i + 0 + copies i = refl in
-    omega (arith, step, slow_is, fast_is)) in
-    let left = sum_two f slow n in
-    let right = sum_two (λ i. g i + fast i) copies n in
-    let inner = sum_two g fast n in
-    omega (arith, same, left, right, inner)
+    let slow_is : slow_price w true ms (OverlayData r o) i ≡ touch_at w ms false r o i + 0 = refl in
+    let fast_is : fast_price w true ms (OverlayData r o) i ≡ touch_at w ms true r o i + 0 + copies_at w ms r o i = refl in
+    omega (arith, step, slow_is, fast_is))
 
 pub object_counted : OneInstruction → ObjectIsCounted
 object_counted one view board g c t q ms r o given region object =

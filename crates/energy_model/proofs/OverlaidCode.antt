@@ -26,7 +26,7 @@ use Rattle.energy_model.specs.Copied.{home_words}
 use Rattle.energy_model.specs.Together.{taken}
 use Rattle.energy_model.specs.Overlay.{is_entered, entering_price, entered_words, copied_price, PieceIsCounted}
 use Rattle.energy_model.proofs.SceneLemmas.{Follows, follows}
-use Rattle.energy_model.proofs.SumLemmas.{sum_two}
+use Rattle.energy_model.proofs.SumLemmas.{sum_two, sum_moved}
 use Rattle.energy_model.proofs.EnergyLemmas.{current_fits}
 use Rattle.energy_model.proofs.WordLemmas.{IsCountedRun}
 use Rattle.energy_model.proofs.CopyLemmas.{home_counted, copy_counted}
@@ -196,15 +196,8 @@ enters_counted view board g c t q ms first last r given region =
 
 -- one name more, whose steps are these
 steps_more : (w : Scene) (p : BlockRange) (name : VarName) (ms : List Transition) → ((i : ℕ) → i < length ms → step_energy w (taken true (name ∷ [])) ms i + home_at w p ms i ≡ step_energy w (taken true []) ms i + copy_at w p ms i + copies_at w ms name i) → steps_energy w (taken true (name ∷ [])) ms + sum_below (home_at w p ms) (length ms) ≡ steps_energy w (taken true []) ms + sum_below (copy_at w p ms) (length ms) + sum_below (copies_at w ms name) (length ms)
-steps_more w p name ms each =
-    let n = length ms in
-    let f = step_energy w (taken true (name ∷ [])) ms in
-    let g = step_energy w (taken true []) ms in
-    let same = sum_same (λ i. f i + home_at w p ms i) (λ i. g i + copy_at w p ms i + copies_at w ms name i) n each in
-    let left = sum_two f (home_at w p ms) n in
-    let right = sum_two (λ i. g i + copy_at w p ms i) (copies_at w ms name) n in
-    let inner = sum_two g (copy_at w p ms) n in
-    omega (arith, same, left, right, inner)
+steps_more w p name ms =
+    sum_moved (step_energy w (taken true (name ∷ [])) ms) (home_at w p ms) (step_energy w (taken true []) ms) (copy_at w p ms) (copies_at w ms name) (length ms)
 
 pub piece_counted : OneInstruction → PieceIsCounted
 piece_counted one view board g c t q ms first last r given region =

@@ -15,6 +15,15 @@ pub sum_two : (f g : ℕ → ℕ) (n : ℕ) → sum_below (λ k. f k + g k) n �
 sum_two f g zero = refl
 sum_two f g (suc n) = let earlier = sum_two f g n in omega (arith, earlier)
 
+-- sums of terms that differ so
+pub sum_moved : (f slow g fast copies : ℕ → ℕ) (n : ℕ) → ((i : ℕ) → i < n → f i + slow i ≡ g i + fast i + copies i) → sum_below f n + sum_below slow n ≡ sum_below g n + sum_below fast n + sum_below copies n
+sum_moved f slow g fast copies n each =
+    let same = sum_same (λ i. f i + slow i) (λ i. g i + fast i + copies i) n each in
+    let left = sum_two f slow n in
+    let right = sum_two (λ i. g i + fast i) copies n in
+    let inner = sum_two g fast n in
+    omega (arith, same, left, right, inner)
+
 -- a term of a sum
 pub term_small : (f : ℕ → ℕ) (k n bound : ℕ) → k < n → sum_below f n < bound → sum_below f k + f k < bound
 term_small f k n bound below small = let more = sum_rises f (suc k) n below in omega (arith, more, small)

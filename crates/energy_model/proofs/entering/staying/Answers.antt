@@ -1,6 +1,6 @@
-use Rattle.std.proofs.Common.{◌≡◌, ◌∙◌, arith}
+use Rattle.std.proofs.Common.{◌∙◌, arith}
 use Rattle.energy_model.specs.Entering.{entered_in}
-use Rattle.energy_model.proofs.EdgeLemmas.{first_of_edges, edge_there, edge_within, sum_fits, sum_grows, rises, all_edges}
+use Rattle.energy_model.proofs.EdgeLemmas.{first_of_edges, edge_there, edge_within, sum_fits, sum_grows, all_edges}
 use Rattle.energy_model.proofs.entering.staying.Goals as goal
 
 pub loop-j-init : goal.loop-j-init
@@ -9,9 +9,7 @@ loop-j-init c =
 
 pub index-requires : goal.index-requires
 index-requires c =
-    let below = edge_there c.args.tables.now.profile.now.edges.items c.args.tables.now.counts.now.edges.items c.args.a c.loop-j.j c.edge_start-j-end.result c.requires.starts c.edge_start-j-end.ensures c.loop-j-test.true in
-    let count = c.args.tables.now.profile.now.edges.ok.0 in
-    omega (arith, below, count)
+    omega (arith, edge_there c.args.tables.now.profile.now.edges.items c.args.tables.now.counts.now.edges.items c.args.a c.loop-j.j c.edge_start-j-end.result c.requires.starts c.edge_start-j-end.ensures c.loop-j-test.true, c.args.tables.now.profile.now.edges.ok.0)
 
 pub count_entered-entered-requires : goal.count_entered-entered-requires
 count_entered-entered-requires c =
@@ -34,6 +32,4 @@ loop-j-preserved c =
 
 pub returns : goal.returns
 returns c =
-    let order = rises c.args.tables.now.profile.now.edges.items c.args.tables.now.counts.now.edges.items c.args.a c.edge_start-j.result c.edge_start-j-end.result c.requires.tables.code.ordered c.requires.starts c.edge_start-j.ensures c.edge_start-j-end.ensures in
-    let done : c.loop-j.j ≡ c.edge_start-j-end.result = grind (arith, order) in
-    all_edges c.args.tables.now.profile.now.edges.items c.args.tables.now.counts.now.edges.items c.args.a (entered_in c.args.tables.now.regions.now.border.items c.args.range.now) c.edge_start-j.result c.edge_start-j-end.result c.loop-j.j c.loop-j.total c.requires.tables.code.ordered c.requires.starts c.edge_start-j.ensures c.edge_start-j-end.ensures done c.loop-j.invariant
+    all_edges c.args.tables.now.profile.now.edges.items c.args.tables.now.counts.now.edges.items c.args.a (entered_in c.args.tables.now.regions.now.border.items c.args.range.now) c.edge_start-j.result c.edge_start-j-end.result c.loop-j.j c.loop-j.total c.requires.tables.code.ordered c.requires.starts c.edge_start-j.ensures c.edge_start-j-end.ensures (λ order. grind (arith, order)) c.loop-j.invariant

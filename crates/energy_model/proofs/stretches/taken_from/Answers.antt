@@ -1,6 +1,6 @@
 use Rattle.std.proofs.Common.{◌≡◌, ◌∙◌, ◌*◌, ℕ, arith}
 use Rattle.energy_model.specs.Stretches.{always}
-use Rattle.energy_model.proofs.EdgeLemmas.{first_of_edges, edge_there, sum_fits, sum_grows, rises, all_edges}
+use Rattle.energy_model.proofs.EdgeLemmas.{first_of_edges, edge_there, sum_fits, sum_grows, all_edges}
 use Rattle.energy_model.proofs.stretches.taken_from.Goals as goal
 
 one_time : (n : ℕ) → n ≡ n * 1
@@ -12,28 +12,19 @@ loop-j-init c =
 
 pub index-requires : goal.index-requires
 index-requires c =
-    let below = edge_there c.args.profile.now.edges.items c.args.counts.now.edges.items c.args.a c.loop-j.j c.edge_start-j-end.result c.requires.starts c.edge_start-j-end.ensures c.loop-j-test.true in
-    let count = c.args.profile.now.edges.ok.0 in
-    omega (arith, below, count)
+    omega (arith, edge_there c.args.profile.now.edges.items c.args.counts.now.edges.items c.args.a c.loop-j.j c.edge_start-j-end.result c.requires.starts c.edge_start-j-end.ensures c.loop-j-test.true, c.args.profile.now.edges.ok.0)
 
 pub overflow_add-total : goal.overflow_add-total
 overflow_add-total c =
-    let edges = c.args.profile.now.edges.items in
-    let below = edge_there edges c.args.counts.now.edges.items c.args.a c.loop-j.j c.edge_start-j-end.result c.requires.starts c.edge_start-j-end.ensures c.loop-j-test.true in
     let here = c.from-total.ensures ∙ one_time c.index.result.now.count in
-    let fits = sum_fits edges c.args.counts.now.edges.items c.args.a always c.loop-j.j c.edge_start-j.result c.edge_start-j-end.result c.loop-j.total c.from-total.result c.index.result.now c.requires.ordered c.requires.starts c.edge_start-j.ensures c.edge_start-j-end.ensures c.loop-j.auto.j c.loop-j-test.true c.loop-j.invariant c.index.ensures here in
-    let small = c.requires.small in
-    omega (arith, fits, small)
+    let fits = sum_fits c.args.profile.now.edges.items c.args.counts.now.edges.items c.args.a always c.loop-j.j c.edge_start-j.result c.edge_start-j-end.result c.loop-j.total c.from-total.result c.index.result.now c.requires.ordered c.requires.starts c.edge_start-j.ensures c.edge_start-j-end.ensures c.loop-j.auto.j c.loop-j-test.true c.loop-j.invariant c.index.ensures here in
+    omega (arith, fits, c.requires.small)
 
 pub loop-j-preserved : goal.loop-j-preserved
 loop-j-preserved c =
-    let edges = c.args.profile.now.edges.items in
     let here = c.from-total.ensures ∙ one_time c.index.result.now.count in
-    sum_grows edges c.args.counts.now.edges.items c.args.a always c.loop-j.j c.edge_start-j.result c.edge_start-j-end.result c.loop-j.total c.from-total.result c.index.result.now c.requires.ordered c.requires.starts c.edge_start-j.ensures c.edge_start-j-end.ensures c.loop-j.auto.j c.loop-j-test.true c.loop-j.invariant c.index.ensures here
+    sum_grows c.args.profile.now.edges.items c.args.counts.now.edges.items c.args.a always c.loop-j.j c.edge_start-j.result c.edge_start-j-end.result c.loop-j.total c.from-total.result c.index.result.now c.requires.ordered c.requires.starts c.edge_start-j.ensures c.edge_start-j-end.ensures c.loop-j.auto.j c.loop-j-test.true c.loop-j.invariant c.index.ensures here
 
 pub returns : goal.returns
 returns c =
-    let edges = c.args.profile.now.edges.items in
-    let order = rises edges c.args.counts.now.edges.items c.args.a c.edge_start-j.result c.edge_start-j-end.result c.requires.ordered c.requires.starts c.edge_start-j.ensures c.edge_start-j-end.ensures in
-    let done : c.loop-j.j ≡ c.edge_start-j-end.result = grind (arith, order) in
-    all_edges edges c.args.counts.now.edges.items c.args.a always c.edge_start-j.result c.edge_start-j-end.result c.loop-j.j c.loop-j.total c.requires.ordered c.requires.starts c.edge_start-j.ensures c.edge_start-j-end.ensures done c.loop-j.invariant
+    all_edges c.args.profile.now.edges.items c.args.counts.now.edges.items c.args.a always c.edge_start-j.result c.edge_start-j-end.result c.loop-j.j c.loop-j.total c.requires.ordered c.requires.starts c.edge_start-j.ensures c.edge_start-j-end.ensures (λ order. grind (arith, order)) c.loop-j.invariant
