@@ -9,7 +9,7 @@ use Rattle.energy_model.specs.Energy.{Scene, steps_energy, start_job, stub_energ
 use Rattle.energy_model.specs.Scenes.{scene_of}
 use Rattle.energy_model.specs.Priced.{AreApart}
 use Rattle.placement_candidates.specs.Stated.{taken_alone, gain_alone}
-use Rattle.placement_candidates.specs.Adding.{items_taken, gains_of, EnergyAddsUp}
+use Rattle.placement_candidates.specs.Adding.{items_taken, gains_by, EnergyAddsUp}
 use Rattle.energy_model.proofs.SceneLemmas.{Follows, follows}
 use Rattle.energy_model.proofs.TakenLemmas.{slow_sum, fast_sum, itself_static, one_more}
 
@@ -34,7 +34,7 @@ less_again x base gain gains is = omega (arith, ints, is)
 none_taken : (base stub : ℕ) → pos (stub + base) ≡ pos (base + stub) -ℤ pos 0
 none_taken base stub = omega (arith, ints)
 
-pub items_sum : (w : Scene) (ms : List Transition) (names : List VarName) → Follows w ms → AreApart names → pos (side_energy w (items_taken names) ms) ≡ pos (steps_energy w nothing_taken ms + stub_energy w nothing_taken) -ℤ gains_of w ms names
+pub items_sum : (w : Scene) (ms : List Transition) (names : List VarName) → Follows w ms → AreApart names → pos (side_energy w (items_taken names) ms) ≡ pos (steps_energy w nothing_taken ms + stub_energy w nothing_taken) -ℤ gains_by (gain_alone w ms) names
 items_sum w ms [] all apart = none_taken (steps_energy w nothing_taken ms) (stub_energy w nothing_taken)
 items_sum w ms (name ∷ names) all apart =
     let earlier = items_sum w ms names all apart.1 in
@@ -48,7 +48,7 @@ items_sum w ms (name ∷ names) all apart =
       stub = let sum = sum_by-cons (start_job w) name names in omega (arith, sum);
       stub_alone = let sum = sum_by-cons (start_job w) name [] in omega (arith, sum);
     }) in
-    parts ∙ less_again (pos (side_energy w (items_taken names) ms)) (pos (steps_energy w nothing_taken ms + stub_energy w nothing_taken)) (gain_alone w ms name) (gains_of w ms names) earlier
+    parts ∙ less_again (pos (side_energy w (items_taken names) ms)) (pos (steps_energy w nothing_taken ms + stub_energy w nothing_taken)) (gain_alone w ms name) (gains_by (gain_alone w ms) names) earlier
 
 pub adds_up : OneInstruction → EnergyAddsUp
 adds_up one view board g c t q ms names given apart =

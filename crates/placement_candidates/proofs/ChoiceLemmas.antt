@@ -27,7 +27,7 @@ use Rattle.energy_model.specs.Scenes.{scene_of, layout_of}
 use Rattle.energy_model.specs.Priced.{IsStatic, IsApart, IsApartFrom, AreApart}
 use Rattle.placement_candidates.specs.Stated.{gain_alone, data_var, data_vars, code_var, AreSomePieces, static_vars}
 use Rattle.placement_candidates.specs.Selected.{no_var, var_in, stated}
-use Rattle.placement_candidates.specs.Adding.{gains_of, kept_name, taken_by, EnergyIsOfTheRun, GainsAreWithinTheBase}
+use Rattle.placement_candidates.specs.Adding.{gains_by, kept_name, taken_by, EnergyIsOfTheRun, GainsAreWithinTheBase}
 use Rattle.energy_model.proofs.SceneLemmas.{Follows, follows}
 use Rattle.placement_candidates.proofs.AddingLemmas.{items_sum}
 use Rattle.placement_candidates.proofs.ApartLemmas.{in_rows_weight}
@@ -219,7 +219,7 @@ module _ (board : Board) (g : Graph) (c : Code) (t : RegionTable) (pieces : List
       let names = map (kept_name (kept vs)) take in
       let gains = gains_are vs (gain_alone w ms) (λ i below. (is_stated w l pieces ms i below).saves) 0 take fits.numbers in
       let sum = items_sum w ms names all (all_static 0 take fits.numbers (all_apart vs (off_capacities l) IsApart apart take fits)) in
-      energy_shape (steps_energy w nothing_taken ms) (stub_energy w nothing_taken) (sum_by (gain_at (kept vs)) take) (gains_of w ms names) gains
+      energy_shape (steps_energy w nothing_taken ms) (stub_energy w nothing_taken) (sum_by (gain_at (kept vs)) take) (gains_by (gain_alone w ms) names) gains
       ∙ (sym sum
       ∙ ap pos (sym (some_choice (length (map (kept_name (kept vs)) ks)) (steps_energy w (taken_by (stated w l pieces ms) record { on = false; take = take }) ms) (side_energy w (taken_by (stated w l pieces ms) record { on = false; take = take }) ms))))
 

@@ -24,9 +24,9 @@ use Rattle.energy_model.proofs.SceneLemmas.{Follows, follows}
 use Rattle.energy_model.proofs.OverlayLemmas.{overlay_costs}
 use Rattle.placement_candidates.specs.Stated.{AreSomePieces}
 use Rattle.placement_candidates.specs.Selected.{var_in, no_var, has_overlay, selected_side, selected_on}
-use Rattle.placement_candidates.specs.Adding.{kept_name}
+use Rattle.placement_candidates.specs.Adding.{gains_by, kept_name}
 use Rattle.placement_candidates.specs.Overlaid.{AreOverlaidObjects, static_candidates, overlay_candidates, overlay_gain, overlay_var, overlay_layout, overlay_fixed, on_side, has_on_side}
-use Rattle.placement_candidates.specs.Whole.{AreApartAll, overlay_gains, whole_stated, names_of, taken_of, WholeEnergyIsOfTheRun}
+use Rattle.placement_candidates.specs.Whole.{AreApartAll, whole_stated, names_of, taken_of, WholeEnergyIsOfTheRun}
 use Rattle.placement_candidates.proofs.SideLemmas.{kept, gains_are, IsApartFromEach, AreAllApart, FitTogether, all_apart}
 use Rattle.placement_candidates.proofs.ApartLemmas.{nothing_in_common}
 use Rattle.placement_candidates.proofs.CandidateLemmas.{are_of_layout}
@@ -94,7 +94,7 @@ module _ (board : Board) (g : Graph) (c : Code) (t : RegionTable) (objects : Lis
       let names = map (kept_name (kept vs)) take in
       let gains = gains_are vs (overlay_gain w ms) saves 0 take fits.numbers in
       let free = all_from names (all_apart vs (on_capacities l) HaveNothingInCommon (apart some) take fits) in
-      energy_shape (steps_energy w nothing_taken ms) (side_energy w (taken true []) ms) (sum_by (gain_at (kept vs)) take) (overlay_gains w ms names) (overlay_costs w ms all) gains
+      energy_shape (steps_energy w nothing_taken ms) (side_energy w (taken true []) ms) (sum_by (gain_at (kept vs)) take) (gains_by (overlay_gain w ms) names) (overlay_costs w ms all) gains
       ∙ sym (overlay_sum w ms names all free)
 
   abbrev side : PlainFullSide

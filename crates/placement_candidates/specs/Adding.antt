@@ -27,19 +27,18 @@ abbrev pub gains_by : (VarName → ℤ) → List VarName → ℤ
 gains_by saved [] = pos 0
 gains_by saved (name ∷ names) = saved name +ℤ gains_by saved names
 
--- what each saves alone
-abbrev pub gains_of : Scene → List Transition → List VarName → ℤ
-gains_of w transitions names = gains_by (gain_alone w transitions) names
+-- for such items the energy is that of none, less what each saves alone
+abbrev pub AddsUp : (List VarName → Type 0) → (List VarName → Taken) → (Scene → List Transition → ℕ) → (Scene → List Transition → VarName → ℤ) → Type 0
+AddsUp Such takes none saved =
+    (view : ElfView) (board : Board) (g : Graph) (c : Code) (t : RegionTable) (q : Profile) (transitions : List Transition) (names : List VarName)
+    → AreOfSameFile view board g c t q transitions → Such names
+    → pos (side_energy (scene_of g c t board) (takes names) transitions)
+    ≡ pos (none (scene_of g c t board) transitions) -ℤ gains_by (saved (scene_of g c t board) transitions) names
 
--- for different objects, and pieces of which no two share a block, the energy is the base and the fixed cost, less these
--- gains
+-- different objects, and pieces of which no two share a block
 abbrev pub EnergyAddsUp : Type 0
 EnergyAddsUp =
-    (view : ElfView) (board : Board) (g : Graph) (c : Code) (t : RegionTable) (q : Profile) (transitions : List Transition) (names : List VarName)
-    → AreOfSameFile view board g c t q transitions → AreApart names
-    → pos (side_energy (scene_of g c t board) (items_taken names) transitions)
-    ≡ pos (steps_energy (scene_of g c t board) nothing_taken transitions + stub_energy (scene_of g c t board) nothing_taken)
-    -ℤ gains_of (scene_of g c t board) transitions names
+    AddsUp AreApart items_taken (λ w transitions. steps_energy w nothing_taken transitions + stub_energy w nothing_taken) gain_alone
 
 -- ---- choices of the programme that a run states
 

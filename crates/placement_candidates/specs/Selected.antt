@@ -3,7 +3,7 @@ use Rattle.std.specs.Prelude.{ℕ, zero, suc, ◌==◌, nat_lt, ℤ, pos, negsuc
 use Rattle.list_checks.specs.Tests.{any_below}
 use Rattle.list_checks.specs.Sorted.{count_below}
 use Rattle.placement_programme.specs.declared.variables.VarName.{VarName}
-use Rattle.placement_programme.specs.declared.variables.VarName.TheVariants.{StaticData, StaticCode, OverlayData, OverlayCode, KeptData}
+use Rattle.placement_programme.specs.declared.variables.VarName.TheVariants.{StaticData, StaticCode}
 use Rattle.placement_programme.specs.Rows.{Layout}
 use Rattle.profile_runner.specs.Transition.{Transition}
 use Rattle.block_splitter.specs.declared.piece.Piece.{Piece}
@@ -51,9 +51,7 @@ selected_side s = record { fixed = s.fixed; rows = s.rows; vars = kept_below s.v
 abbrev pub is_overlay : VarName → Bool
 is_overlay (StaticData o) = false
 is_overlay (StaticCode first last) = false
-is_overlay (OverlayData r o) = true
-is_overlay (OverlayCode r first last) = true
-is_overlay (KeptData pair o) = true
+is_overlay name = true
 
 abbrev pub saves_by_overlay : PlainFullVar → Bool
 saves_by_overlay v = is_overlay v.name && nat_lt 0 (worth v.gain)

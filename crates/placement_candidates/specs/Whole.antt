@@ -1,5 +1,5 @@
 -- The programme of both sides that a run states, and what is claimed of its choices.
-use Rattle.std.specs.Prelude.{◌≡◌, ℕ, pos, ℤ, ◌-ℤ◌, true, List, [], ◌∷◌, map, Option, Some, None}
+use Rattle.std.specs.Prelude.{◌≡◌, ℕ, pos, true, List, [], ◌∷◌, map, Option, Some, None}
 use Rattle.elf_reader.specs.declared.view.ElfView.{ElfView}
 use Rattle.board_config.specs.declared.board.Board.{Board}
 use Rattle.object_graph.specs.declared.parts.Graph.{Graph}
@@ -17,7 +17,7 @@ use Rattle.energy_model.specs.Scenes.{scene_of, AreOfSameFile}
 use Rattle.energy_model.specs.Together.{taken, IsApartFromAll}
 use Rattle.placement_candidates.specs.Stated.{AreSomePieces}
 use Rattle.placement_candidates.specs.Selected.{selected}
-use Rattle.placement_candidates.specs.Adding.{gains_by, kept_name}
+use Rattle.placement_candidates.specs.Adding.{AddsUp, kept_name}
 use Rattle.placement_candidates.specs.Overlaid.{AreOverlaidObjects, overlay_gain, overlay_layout, whole_full}
 
 -- ---- gains add up
@@ -27,16 +27,9 @@ abbrev pub AreApartAll : List VarName → Type 0
 AreApartAll [] = Unit {0}
 AreApartAll (name ∷ names) = IsApartFromAll name names × AreApartAll names
 
--- what each saves alone with overlay, summed
-abbrev pub overlay_gains : Scene → List Transition → List VarName → ℤ
-overlay_gains w transitions names = gains_by (overlay_gain w transitions) names
-
+-- with overlay
 abbrev pub OverlayAddsUp : Type 0
-OverlayAddsUp =
-    (view : ElfView) (board : Board) (g : Graph) (c : Code) (t : RegionTable) (q : Profile) (transitions : List Transition) (names : List VarName)
-    → AreOfSameFile view board g c t q transitions → AreApartAll names
-    → pos (side_energy (scene_of g c t board) (taken true names) transitions)
-    ≡ pos (side_energy (scene_of g c t board) (taken true []) transitions) -ℤ overlay_gains (scene_of g c t board) transitions names
+OverlayAddsUp = AddsUp AreApartAll (taken true) (λ w transitions. side_energy w (taken true []) transitions) overlay_gain
 
 -- ---- choices
 
