@@ -15,14 +15,14 @@ loop-k-init c p agrees =
 pub loop-k-preserved : goal.loop-k-preserved
 loop-k-preserved c p agrees =
     let before = c.loop-k.invariant p agrees in
-    let step = c.in_ok-step.ensures.step p before.0 in
+    let step = c.in_ok-step_in.ensures.step p before.0 in
     let start = state_of p c.args.source.now in
     let here = state_of p c.loop-k.source in
     let next = state_of p c.step_in.new.self in (
       step.0,
       runs_more SourceState (Steps p) IsOver (one_run c.one_instruction.ensures p) start c.loop-k.k here next before.1
           (λ over. subst HasEnded (sym (c.outcome.ensures p) ∙ c.if-has_ended.ensures) over)
-          (steps_more p c.loop-k.k start here next c.in_ok-step.field-0 before.1.ran step.1),
+          (steps_more p c.loop-k.k start here next c.in_ok-step_in.field-0 before.1.ran step.1),
     )
 
 pub returns-then-has_ended : goal.returns-then-has_ended
