@@ -106,10 +106,16 @@ credits_more s marks scale stamp now at value growth below room grows =
     let here : g at ≡ credit_part s marks scale (λ j. value) at = ap (λ n. credit (fixing_of marks at) (scale * gain_at s.vars at) n) (price_set stamp now at value room) in
     omega (arith, sum, here, grows)
 
-credit_small : (m : Fixing) (gain price : ℕ) → credit m gain price ≤ price
+pub credit_small : (m : Fixing) (gain price : ℕ) → credit m gain price ≤ price
 credit_small Zero gain price = omega arith
 credit_small One gain price = omega arith
 credit_small Free gain price = omega arith
+
+-- a higher price credits no less, and no more than it is higher by
+pub credit_grows : (m : Fixing) (gain old new : ℕ) → old ≤ new → (credit m gain old ≤ credit m gain new) × (credit m gain new + old ≤ credit m gain old + new)
+credit_grows Zero gain old new order = (omega arith, omega (arith, order))
+credit_grows One gain old new order = (order, omega arith)
+credit_grows Free gain old new order = (omega (arith, order), omega (arith, order))
 
 pub credits_small : (s : PlainSide) (marks : List Fixing) (scale : ℕ) (price : ℕ → ℕ) → IsWithinBounds s → ((j : ℕ) → price j ≤ 2 ^ 113) → credits s marks scale price ≤ 4000 * 2 ^ 113
 credits_small s marks scale price bounds small =

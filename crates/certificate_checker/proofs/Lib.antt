@@ -23,3 +23,4 @@ pub mod RowLoads
 pub mod TallyLemmas
 pub mod NodeLemmas
 pub mod CreditLemmas
+pub mod LastLemmas

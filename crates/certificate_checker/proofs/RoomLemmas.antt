@@ -1,10 +1,12 @@
 -- A certificate that is checked as it is read.
-use Rattle.std.proofs.Common.{◌≡◌, ◌∙◌, inl, inr, ℕ, suc, ◌+◌, ◌<◌, ◌≤◌, ◌==◌, Bool, true, false, List, [], ◌∷◌, ◌++◌, length, Option, Some, None, Result, Ok, Err, refl, sym, ap, subst, arith}
+use Rattle.std.proofs.Common.{◌≡◌, ◌∙◌, inl, inr, ℕ, suc, ◌+◌, ◌<◌, ◌≤◌, ◌==◌, Bool, true, false, List, [], ◌∷◌, ◌++◌, length, Option, Some, None, option_map, Result, Ok, Err, refl, sym, ap, subst, arith}
 use Rattle.std.specs.Prelude.{IsSomeAnd, MatchOption, IfSome}
+use Rattle.std.proofs.Math.Nat.{le-max_left, le-max_right}
 use Rattle.std.proofs.lemmas.Bool.{ne_eqb}
 use Rattle.placement_programme.specs.Plain.{PlainSide, PlainProgramme, PlainChoice}
 use Rattle.placement_programme.specs.Bounds.{AscendWithin}
 use Rattle.placement_programme.specs.Programme.{Fits, side_for}
+use Rattle.placement_programme.specs.declared.sides.Side.{Side}
 use Rattle.certificate_checker.specs.declared.fields.Part.TheVariants.{Head}
 use Rattle.certificate_checker.specs.declared.walking.Failing.{Failing}
 use Rattle.certificate_checker.specs.Nodes.{PlainTree, PlainCertificate}
@@ -12,7 +14,7 @@ use Rattle.certificate_checker.specs.Shows.{IsAccepted, in_32_bits, Answers}
 use Rattle.certificate_checker.specs.Reading.{◌>>=◌, number_in, vars_at, flag_at, choice_at, tree_at, most_levels, PlainTrees, second_at, trees_at, trees_for, body_at}
 use Rattle.certificate_checker.specs.Spelling.{has_tree}
 use Rattle.certificate_checker.specs.Walks.{SideAnswers}
-use Rattle.certificate_checker.specs.Rooms.{AreTaken, vars_of, IsBest, AnswersFor, gain_behind, verdict_for, KeepsChoice}
+use Rattle.certificate_checker.specs.Rooms.{AreTaken, most_of, vars_of, IsBest, AnswersFor, gain_behind, verdict_for, KeepsChoice}
 use Rattle.certificate_checker.proofs.NumberLaws.{chosen}
 use Rattle.certificate_checker.proofs.FieldLaws.{bind_ok, done, done_is}
 use Rattle.certificate_checker.proofs.Failures.{number_here}
@@ -145,3 +147,12 @@ pub best_of : (p : PlainProgramme) (on : Bool) (taken ks : List ℕ) (best : Opt
 best_of p on taken ks None same accepted small = λ b is. accepted b (subst (λ l. IsAccepted p record { on = on; take = l } b) (sym same) is)
 best_of p on taken ks (Some g) same accepted small =
     (subst (λ l. IsAccepted p record { on = on; take = l } g) same accepted, ap (λ l. choice_of on l) same, small)
+
+-- a length that is that of the longer side suffices for both
+pub enough_off : (n k : ℕ) (other : Option ℕ) → k ≡ most_of n other → n ≤ k
+enough_off n k None is = omega (arith, is)
+enough_off n k (Some m) is = let less = le-max_left n m in omega (arith, is, less)
+
+pub enough_on : (n k : ℕ) (on : Option Side) → k ≡ most_of n (option_map (λ s. length s.vars.items) on) → IfSome on (λ s. length s.vars.items ≤ k)
+enough_on n k None is = tt
+enough_on n k (Some s) is = let less = le-max_right n (length s.vars.items) in omega (arith, is, less)

@@ -17,6 +17,7 @@ pub mod Digits
 pub mod Reading
 pub mod Spelling
 pub mod Loading
+pub mod LastDuals
 pub mod Ways
 pub mod Tallies
 pub mod Rooms

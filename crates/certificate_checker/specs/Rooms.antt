@@ -100,11 +100,11 @@ BodyAnswers p kept (Err e) read = read ≡ Err e
 pub record RoomFits (p : Programme) (r : Room) : Type 0 where
   pub path : 4097 ≤ length r.path.items
   pub off : HasRoomFor (plain_side p.off) r.off
-  pub off_prices : length p.off.vars.items ≤ length r.prices.items
+  pub off_prices : length p.off.vars.items ≤ length r.prices.list.items
   pub off_rows : IsOfSide (plain_side p.off) (rows_of r.off_rows)
   pub off_take : length p.off.vars.items ≤ vec_capacity r.choice.take
   pub on : IfSome p.on (λ s. HasRoomFor (plain_side s) r.on)
-  pub on_prices : IfSome p.on (λ s. length s.vars.items ≤ length r.prices.items)
+  pub on_prices : IfSome p.on (λ s. length s.vars.items ≤ length r.prices.list.items)
   pub on_rows : IfSome p.on (λ s. IsOfSide (plain_side s) (rows_of r.on_rows))
   pub on_take : IfSome p.on (λ s. length s.vars.items ≤ vec_capacity r.choice.take)
 
@@ -118,14 +118,14 @@ pub record IsRoomOf (p : Programme) (r : Room) : Type 0 where
   pub path : length r.path.items ≡ 4097
   pub off : HasRoomFor (plain_side p.off) r.off
   pub on : IfSome p.on (λ s. HasRoomFor (plain_side s) r.on)
-  pub prices : length r.prices.items ≡ most_of (length p.off.vars.items) (option_map (λ s. length s.vars.items) p.on)
+  pub prices : length r.prices.list.items ≡ most_of (length p.off.vars.items) (option_map (λ s. length s.vars.items) p.on)
 
 -- the lists of a room are as long as they were, and its weights by rows are the same
 pub record KeepsSizes (old new : Room) : Type 0 where
   pub path : length new.path.items ≡ length old.path.items
   pub off : HasSameRoomFor old.off new.off
   pub on : HasSameRoomFor old.on new.on
-  pub prices : length new.prices.items ≡ length old.prices.items
+  pub prices : length new.prices.list.items ≡ length old.prices.list.items
   pub off_rows : new.off_rows ≡ old.off_rows
   pub on_rows : new.on_rows ≡ old.on_rows
 

@@ -1,6 +1,6 @@
 ghost use Rattle.std.specs.Prelude.{◌≡◌, ℕ, ◌+◌, ◌*◌, ◌^◌, ◌<◌, ◌≤◌, length, slice_set};
 ghost use Rattle.placement_programme.specs.{Bounds.{AreWeights}, Programme.{weight_in}, Views.{plain_side}};
-ghost use Rattle.certificate_checker.specs.Prices.{priced_at, credit_part, credits, AreFrom};
+ghost use Rattle.certificate_checker.specs.Prices.{priced_at, credit, credit_part, credits, AreFrom};
 
 use crate::columns::scaled_gain;
 use crate::fixings::{Fixing, fixing_of};
@@ -18,6 +18,17 @@ pub(crate) struct Pricing<'a> {
     pub stamp: usize,
 }
 
+/// What a price credits to a dual node, by the variable's mark and its scaled gain.
+pub(crate) fn credit_of(fixing: Fixing, gain: u128, price: u128) -> u128
+    ensures { result ≡ credit fixing gain price }
+{
+    match fixing {
+        Fixing::Zero => 0,
+        Fixing::One => price,
+        Fixing::Free => gain - gain.saturating_sub(price),
+    }
+}
+
 /// By how much a variable's credit grows with its price.
 fn growth(pricing: &Pricing, number: usize, old: u128, new: u128) -> u128
     requires number { number < length (plain_side pricing.now.side.now).vars }
@@ -27,14 +38,9 @@ fn growth(pricing: &Pricing, number: usize, old: u128, new: u128) -> u128
     ensures value { result + credit_part (plain_side pricing.now.side.now) pricing.now.marks.now pricing.now.scale (λ j. old) number ≡ credit_part (plain_side pricing.now.side.now) pricing.now.marks.now pricing.now.scale (λ j. new) number }
     ensures small { result + old ≤ new }
 {
-    match fixing_of(pricing.marks, number) {
-        Fixing::Zero => 0,
-        Fixing::One => new - old,
-        Fixing::Free => {
-            let gain = scaled_gain(pricing.side, pricing.scale, number);
-            gain.saturating_sub(old) - gain.saturating_sub(new)
-        }
-    }
+    let fixing = fixing_of(pricing.marks, number);
+    let gain = scaled_gain(pricing.side, pricing.scale, number);
+    credit_of(fixing, gain, new) - credit_of(fixing, gain, old)
 }
 
 /// Adds to the price of a variable. Returns by how much its credit grows.

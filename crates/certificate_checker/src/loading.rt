@@ -18,7 +18,7 @@ pub(crate) struct Loaded {
 }
 
 /// What no rows make.
-fn nothing_loaded() -> Loaded
+pub(crate) fn nothing_loaded() -> Loaded
     ensures { result ≡ record { row_end = 0; bound = 0; credit = 0 } }
 {
     Loaded {

@@ -3,8 +3,8 @@ ghost use Rattle.placement_programme.specs.Views.{plain_side};
 ghost use Rattle.certificate_checker.specs.{RowWise.{rows_of, IsOfSide}, Tallies.{HasRoomFor}, Rooms.{RoomFits, IsRoomOf, most_of}};
 
 use crate::assignments::Assignment;
+use crate::dual_prices::DualPrices;
 use crate::fixings::free_marks;
-use crate::prices::Priced;
 use crate::row_wise::RowWise;
 use crate::steps::PathStep;
 use placement_programme::{Choice, Programme, Side};
@@ -19,8 +19,8 @@ pub struct Room {
     pub on: Assignment,
     /// A step for each depth, 4,097, with which the way from the root to a node is told.
     pub path: Vec<PathStep>,
-    /// A price for each variable of the longer side.
-    pub prices: Vec<Priced>,
+    /// The prices of a dual node, for each variable of the longer side.
+    pub prices: DualPrices,
     /// The weights of the side without overlay, by rows.
     pub off_rows: RowWise,
     /// Those of the side with overlay, where there is one.
@@ -62,12 +62,6 @@ fn free_overlay(alloc: Global, p: &Programme) -> Result<Assignment, AllocError>
     }
 }
 
-fn prices_of(alloc: Global, count: usize) -> Result<Vec<Priced>, AllocError>
-    ensures { IfOk result (λ v. length v.items ≡ count) }
-{
-    vec![in alloc; Priced { stamp: 0, price: 0 }; count]
-}
-
 /// The weights of the side with overlay by rows, none where there is no such side.
 fn overlay_rows(alloc: Global, p: &Programme) -> Result<RowWise, AllocError>
     ensures { IfOk result (λ w. IfSome p.now.on (λ s. IsOfSide (plain_side s) (rows_of w))) }
@@ -100,7 +94,7 @@ impl Room {
         let off = free_side(alloc, &p.off)?;
         let on = free_overlay(alloc, p)?;
         let path = steps_of(alloc, 4097)?;
-        let prices = prices_of(alloc, vars)?;
+        let prices = DualPrices::new(alloc, vars)?;
         let off_rows = RowWise::of(alloc, &p.off)?;
         let on_rows = overlay_rows(alloc, p)?;
         let take = Vec::with_capacity(alloc, vars)?;

@@ -1,11 +1,11 @@
 ghost use Rattle.std.specs.Prelude.{◌≡◌, ℕ, ◌^◌, ◌<◌, ◌≤◌, length, Some, None, Err, option_map, IfSome};
 ghost use Rattle.placement_programme.specs.Views.{plain_side, plain_programme};
-ghost use Rattle.certificate_checker.specs.{Reading.{tree_at, most_levels, trees_at, trees_for}, Prices.{AreFrom}, Tallies.{HasRoomFor, HasSameRoomFor}, Walks.{SideAnswers}, RowWise.{rows_of, IsOfSide}, Rooms.{gain_if, gain_behind, used, SideRead, TreesRead, RoomFits, KeepsChoiceAndSizes}};
+ghost use Rattle.certificate_checker.specs.{Reading.{tree_at, most_levels, trees_at, trees_for}, Tallies.{HasRoomFor, HasSameRoomFor}, Walks.{SideAnswers}, RowWise.{rows_of, IsOfSide}, Rooms.{gain_if, gain_behind, used, SideRead, TreesRead, RoomFits, KeepsChoiceAndSizes}};
 
 use crate::assignments::Assignment;
+use crate::dual_prices::DualPrices;
 use crate::fault::CertFault;
 use crate::fields::{Part, number_in};
-use crate::prices::Priced;
 use crate::rooms::Room;
 use crate::steps::PathStep;
 use crate::tasks::Task;
@@ -58,21 +58,13 @@ fn first_node() -> Result<(), Failing>
     Err(Failing { node: 0, depth: 0 })
 }
 
-/// No price counts any more for a stamp below this.
-fn forget_prices(prices: &mut [Priced], stamp: usize)
-    ensures fresh { AreFrom stamp prices.new }
-    ensures room { length prices.new ≡ length prices.old }
-{
-    prices.fill(Priced { stamp, price: 0 });
-}
-
 /// Walks over the tree of a side, from marks that are all free.
 #[tactic(auto, using(crate::proofs::TallyLemmas::same_room))]
 fn walk_side<'a>(
     task: &Task,
     assignment: &mut Assignment,
     path: &mut [PathStep],
-    prices: &mut [Priced],
+    prices: &mut DualPrices,
     bytes: &'a [u8],
 ) -> Result<(Result<(), Failing>, &'a [u8]), CertFault>
     requires best { task.now.best ≤ 2 ^ 104 }
@@ -80,12 +72,13 @@ fn walk_side<'a>(
     requires levels { task.now.levels < 2 ^ 31 }
     requires path { task.now.levels ≤ length path.old }
     requires assignment { HasRoomFor (plain_side task.now.side.now) assignment.old }
-    requires room { length (plain_side task.now.side.now).vars ≤ length prices.old }
+    requires room { length (plain_side task.now.side.now).vars ≤ length prices.old.list.items }
     ensures same { HasSameRoomFor assignment.old assignment.new }
+    ensures prices { length prices.new.list.items ≡ length prices.old.list.items }
     ensures read { SideRead (Some (plain_side task.now.side.now)) (gain_if task.now.judged task.now.best) result (tree_at task.now.total task.now.levels bytes.now) }
 {
     assignment.restart(task.side);
-    forget_prices(prices, bytes.len());
+    prices.forget(bytes.len());
     match walk_text(task, assignment, path, prices, bytes) {
         Err(fault) => Err(fault),
         Ok((Ok(_), rest)) => Ok((Ok(()), rest)),
@@ -136,7 +129,7 @@ fn overlay_tree<'a>(
     requires best { IfSome best (λ b. b ≤ 2 ^ 104) }
     requires path { 4097 ≤ length room.old.path.items }
     requires assignment { HasRoomFor (plain_side side.now) room.old.on }
-    requires room { length (plain_side side.now).vars ≤ length room.old.prices.items }
+    requires room { length (plain_side side.now).vars ≤ length room.old.prices.list.items }
     requires by_row { IsOfSide (plain_side side.now) (rows_of room.old.on_rows) }
     ensures read { SideRead (Some (plain_side side.now)) best result (tree_at total most_levels bytes.now) }
     ensures kept { KeepsChoiceAndSizes room.old room.new }

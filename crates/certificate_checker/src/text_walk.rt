@@ -1,14 +1,12 @@
 ghost use Rattle.std.specs.Prelude.{◌≡◌, ℕ, suc, ◌+◌, ◌-◌, ◌^◌, ◌<◌, ◌≤◌, ◌↔◌, IsTrue, false, List, [], ◌∷◌, length, IfOk};
 ghost use Rattle.placement_programme.specs.{Plain.{PlainSide}, Views.{plain_side}};
-ghost use Rattle.certificate_checker.specs.{Nodes.{PlainTree}, Rules.{KeepsRule}, Shows.{all_free}, Prices.{AreFrom}, Tallies.{AreTallies, IsAssignmentOf}, Walks.{Walks}, declared.fixings.Fixing.{Fixing}, Reading.{over_at, dual_at, tree_at}, RowWise.{rows_of, IsOfSide}, Loading.{IsSingle, SplitsFirst, WalksRead, WalksBehind, TreeWalked}, Ways.{text_of, first_answer, IsBefore, Stands, Advances, CanAdvance, left}};
+ghost use Rattle.certificate_checker.specs.{Nodes.{PlainTree}, Rules.{KeepsRule}, Shows.{all_free}, Prices.{AreFrom}, Tallies.{AreTallies, IsAssignmentOf}, LastDuals.{IsLast}, Walks.{Walks}, declared.fixings.Fixing.{Fixing}, Reading.{over_at, dual_at, tree_at}, RowWise.{rows_of, IsOfSide}, Loading.{IsSingle, SplitsFirst, WalksRead, WalksBehind, TreeWalked}, Ways.{text_of, first_answer, IsBefore, Stands, Advances, CanAdvance, left}};
 
 use crate::assignments::Assignment;
-use crate::crediting::Pricing;
+use crate::dual_prices::{DualPrices, load_dual};
 use crate::duals::loaded_holds;
 use crate::fault::CertFault;
-use crate::fields::{Part, below_all, cut_off, number_in, place, small_number};
-use crate::loading::load_entries;
-use crate::prices::Priced;
+use crate::fields::{Part, below_all, cut_off, place, small_number};
 use crate::skipping::skip_single;
 use crate::steps::{PathStep, Progress, enter, is_done, leave};
 use crate::tallied_rules::{tallied_leaf, tallied_over};
@@ -49,11 +47,10 @@ fn walk_over<'a>(
     }
 }
 
-#[tactic(auto, unfolding(crate::specs::Reading::dual_at))]
 fn walk_dual<'a>(
     task: &Task,
     assignment: &Assignment,
-    prices: &mut [Priced],
+    prices: &mut DualPrices,
     node: u32,
     depth: u32,
     bytes: &'a [u8],
@@ -61,28 +58,21 @@ fn walk_dual<'a>(
     requires best { task.now.best ≤ 2 ^ 104 }
     requires tallies { AreTallies (plain_side task.now.side.now) assignment.now }
     requires by_row { IsOfSide (plain_side task.now.side.now) (rows_of task.now.by_row.now) }
-    requires room { length (plain_side task.now.side.now).vars ≤ length prices.old }
-    requires fresh { AreFrom (suc (length bytes.now)) prices.old }
-    ensures fresh { AreFrom (length bytes.now) prices.new }
+    requires room { length (plain_side task.now.side.now).vars ≤ length prices.old.list.items }
+    requires fresh { AreFrom (suc (length bytes.now)) prices.old.list.items }
+    requires last { IsLast (plain_side task.now.side.now) assignment.now.marks.items prices.old }
+    ensures same { length prices.new.list.items ≡ length prices.old.list.items }
+    ensures last { IfOk result (λ r. IsLast (plain_side task.now.side.now) assignment.now.marks.items prices.new) }
+    ensures fresh { AreFrom (length bytes.now) prices.new.list.items }
     ensures read { WalksRead (plain_side task.now.side.now) task.now.best assignment.now.marks.items node depth result (dual_at task.now.total bytes.now) }
 {
-    let stamp = bytes.len();
-    let (scale, rest) = number_in(Part::Node, 1, 65536, task.total, bytes)?;
-    let (count, rest) = small_number(Part::Node, 0, task.total, rest)?;
-    let pricing = Pricing {
-        side: task.side,
-        by_row: task.by_row,
-        marks: &assignment.marks,
-        scale: scale as u32,
-        stamp,
-    };
-    let (loaded, rest) = load_entries(&pricing, prices, task.total, count, rest)?;
+    let rest = load_dual(task, &assignment.marks, prices, bytes)?;
     let holds = loaded_holds(
         task.side,
         task.best,
-        scale as u32,
+        prices.scale,
         assignment.bound,
-        &loaded,
+        &prices.loaded,
     );
     Ok((single(holds, node, depth), rest))
 }
@@ -92,7 +82,7 @@ fn walk_dual<'a>(
 fn walk_single<'a>(
     task: &Task,
     assignment: &Assignment,
-    prices: &mut [Priced],
+    prices: &mut DualPrices,
     node: u32,
     depth: u32,
     bytes: &'a [u8],
@@ -100,10 +90,13 @@ fn walk_single<'a>(
     requires best { task.now.best ≤ 2 ^ 104 }
     requires tallies { AreTallies (plain_side task.now.side.now) assignment.now }
     requires by_row { IsOfSide (plain_side task.now.side.now) (rows_of task.now.by_row.now) }
-    requires room { length (plain_side task.now.side.now).vars ≤ length prices.old }
-    requires fresh { AreFrom (length bytes.now) prices.old }
+    requires room { length (plain_side task.now.side.now).vars ≤ length prices.old.list.items }
+    requires fresh { AreFrom (length bytes.now) prices.old.list.items }
+    requires last { IsLast (plain_side task.now.side.now) assignment.now.marks.items prices.old }
     requires tag { (rest : List ℕ) → bytes.now ≡ 0 ∷ rest → ⊥ }
-    ensures fresh { AreFrom (length bytes.now - 1) prices.new }
+    ensures same { length prices.new.list.items ≡ length prices.old.list.items }
+    ensures last { IfOk result (λ r. IsLast (plain_side task.now.side.now) assignment.now.marks.items prices.new) }
+    ensures fresh { AreFrom (length bytes.now - 1) prices.new.list.items }
     ensures read { (levels : ℕ) → WalksRead (plain_side task.now.side.now) task.now.best assignment.now.marks.items node depth result (tree_at task.now.total (suc levels) bytes.now) }
 {
     match bytes {
@@ -124,7 +117,7 @@ fn walk_single<'a>(
 fn answer_single<'a>(
     task: &Task,
     assignment: &Assignment,
-    prices: &mut [Priced],
+    prices: &mut DualPrices,
     so_far: Result<u32, Failing>,
     depth: u32,
     bytes: &'a [u8],
@@ -132,10 +125,13 @@ fn answer_single<'a>(
     requires best { task.now.best ≤ 2 ^ 104 }
     requires tallies { AreTallies (plain_side task.now.side.now) assignment.now }
     requires by_row { IsOfSide (plain_side task.now.side.now) (rows_of task.now.by_row.now) }
-    requires room { length (plain_side task.now.side.now).vars ≤ length prices.old }
-    requires fresh { AreFrom (length bytes.now) prices.old }
+    requires room { length (plain_side task.now.side.now).vars ≤ length prices.old.list.items }
+    requires fresh { AreFrom (length bytes.now) prices.old.list.items }
+    requires last { IsLast (plain_side task.now.side.now) assignment.now.marks.items prices.old }
     requires tag { (rest : List ℕ) → bytes.now ≡ 0 ∷ rest → ⊥ }
-    ensures fresh { AreFrom (length bytes.now - 1) prices.new }
+    ensures same { length prices.new.list.items ≡ length prices.old.list.items }
+    ensures last { IfOk result (λ r. IsLast (plain_side task.now.side.now) assignment.now.marks.items prices.new) }
+    ensures fresh { AreFrom (length bytes.now - 1) prices.new.list.items }
     ensures read { (levels : ℕ) → WalksBehind (plain_side task.now.side.now) task.now.best assignment.now.marks.items so_far depth result (tree_at task.now.total (suc levels) bytes.now) }
 {
     match so_far {
@@ -161,12 +157,17 @@ fn read_branch<'a>(
     task: &Task,
     assignment: &mut Assignment,
     path: &mut [PathStep],
+    prices: &mut DualPrices,
     progress: Progress,
     bytes: &'a [u8],
 ) -> Result<(Progress, &'a [u8]), CertFault>
     requires exact { IsAssignmentOf (plain_side task.now.side.now) assignment.old }
     requires inside { progress.depth < length path.old }
     requires depth { progress.depth < 2 ^ 31 }
+    requires room { length (plain_side task.now.side.now).vars ≤ length prices.old.list.items }
+    requires last { IsLast (plain_side task.now.side.now) assignment.old.marks.items prices.old }
+    ensures list { prices.new.list ≡ prices.old.list }
+    ensures last { IsLast (plain_side task.now.side.now) assignment.new.marks.items prices.new }
     ensures exact { IsAssignmentOf (plain_side task.now.side.now) assignment.new }
     ensures reads { (levels : ℕ) (all : List ℕ) → progress.depth < levels
         → IsBefore (text_of (plain_side task.now.side.now) task.now.judged task.now.best task.now.total levels all) path.old assignment.old.marks.items progress.depth progress.so_far (0 ∷ bytes.now)
@@ -177,7 +178,7 @@ fn read_branch<'a>(
 {
     let (var, rest) = small_number(Part::Node, 0, task.total, bytes)?;
     let depth = progress.depth;
-    let so_far = enter(task.side, assignment, path, depth, var, progress.so_far);
+    let so_far = enter(task.side, assignment, path, prices, progress, var);
     let entered = Progress {
         depth: depth + 1,
         ended: false,
@@ -191,17 +192,20 @@ fn read_single<'a>(
     task: &Task,
     assignment: &Assignment,
     path: &[PathStep],
-    prices: &mut [Priced],
+    prices: &mut DualPrices,
     progress: Progress,
     bytes: &'a [u8],
 ) -> Result<(Progress, &'a [u8]), CertFault>
     requires best { task.now.best ≤ 2 ^ 104 }
     requires tallies { AreTallies (plain_side task.now.side.now) assignment.now }
     requires by_row { IsOfSide (plain_side task.now.side.now) (rows_of task.now.by_row.now) }
-    requires room { length (plain_side task.now.side.now).vars ≤ length prices.old }
-    requires fresh { AreFrom (length bytes.now) prices.old }
+    requires room { length (plain_side task.now.side.now).vars ≤ length prices.old.list.items }
+    requires fresh { AreFrom (length bytes.now) prices.old.list.items }
+    requires last { IsLast (plain_side task.now.side.now) assignment.now.marks.items prices.old }
     requires tag { (rest : List ℕ) → bytes.now ≡ 0 ∷ rest → ⊥ }
-    ensures fresh { IfOk result (λ r. AreFrom (length r.1.now) prices.new) }
+    ensures same { length prices.new.list.items ≡ length prices.old.list.items }
+    ensures last { IfOk result (λ r. IsLast (plain_side task.now.side.now) assignment.now.marks.items prices.new) }
+    ensures fresh { IfOk result (λ r. AreFrom (length r.1.now) prices.new.list.items) }
     ensures reads { (levels : ℕ) (all : List ℕ) → progress.depth < levels
         → IsBefore (text_of (plain_side task.now.side.now) task.now.judged task.now.best task.now.total levels all) path.now assignment.now.marks.items progress.depth progress.so_far bytes.now
         → Advances (text_of (plain_side task.now.side.now) task.now.judged task.now.best task.now.total levels all) path.now assignment.now.marks.items result }
@@ -223,20 +227,23 @@ fn read_node<'a>(
     task: &Task,
     assignment: &mut Assignment,
     path: &mut [PathStep],
-    prices: &mut [Priced],
+    prices: &mut DualPrices,
     progress: Progress,
     bytes: &'a [u8],
 ) -> Result<(Progress, &'a [u8]), CertFault>
     requires best { task.now.best ≤ 2 ^ 104 }
     requires exact { IsAssignmentOf (plain_side task.now.side.now) assignment.old }
     requires by_row { IsOfSide (plain_side task.now.side.now) (rows_of task.now.by_row.now) }
-    requires room { length (plain_side task.now.side.now).vars ≤ length prices.old }
-    requires fresh { AreFrom (length bytes.now) prices.old }
+    requires room { length (plain_side task.now.side.now).vars ≤ length prices.old.list.items }
+    requires fresh { AreFrom (length bytes.now) prices.old.list.items }
+    requires last { IsLast (plain_side task.now.side.now) assignment.old.marks.items prices.old }
     requires levels { task.now.levels < 2 ^ 31 }
     requires inside { task.now.levels ≤ length path.old }
     requires depth { progress.depth ≤ task.now.levels }
+    ensures same { length prices.new.list.items ≡ length prices.old.list.items }
+    ensures last { IfOk result (λ r. IsLast (plain_side task.now.side.now) assignment.new.marks.items prices.new) }
     ensures exact { IsAssignmentOf (plain_side task.now.side.now) assignment.new }
-    ensures fresh { IfOk result (λ r. AreFrom (length r.1.now) prices.new) }
+    ensures fresh { IfOk result (λ r. AreFrom (length r.1.now) prices.new.list.items) }
     ensures reads { (all : List ℕ) → IsBefore (text_of (plain_side task.now.side.now) task.now.judged task.now.best task.now.total task.now.levels all) path.old assignment.old.marks.items progress.depth progress.so_far bytes.now
         → Advances (text_of (plain_side task.now.side.now) task.now.judged task.now.best task.now.total task.now.levels all) path.new assignment.new.marks.items result }
     ensures left { progress.ended ≡ false → IfOk result (λ r. left r.0 r.1.now < left progress bytes.now) }
@@ -247,7 +254,7 @@ fn read_node<'a>(
         return Err(below_all(task.total, bytes, tag));
     }
     if tag == 0 {
-        return read_branch(task, assignment, path, progress, rest);
+        return read_branch(task, assignment, path, prices, progress, rest);
     }
     read_single(task, assignment, path, prices, progress, bytes)
 }
@@ -257,28 +264,31 @@ fn advance<'a>(
     task: &Task,
     assignment: &mut Assignment,
     path: &mut [PathStep],
-    prices: &mut [Priced],
+    prices: &mut DualPrices,
     progress: Progress,
     bytes: &'a [u8],
 ) -> Result<(Progress, &'a [u8]), CertFault>
     requires best { task.now.best ≤ 2 ^ 104 }
     requires exact { IsAssignmentOf (plain_side task.now.side.now) assignment.old }
     requires by_row { IsOfSide (plain_side task.now.side.now) (rows_of task.now.by_row.now) }
-    requires room { length (plain_side task.now.side.now).vars ≤ length prices.old }
-    requires fresh { AreFrom (length bytes.now) prices.old }
+    requires room { length (plain_side task.now.side.now).vars ≤ length prices.old.list.items }
+    requires fresh { AreFrom (length bytes.now) prices.old.list.items }
+    requires last { IsLast (plain_side task.now.side.now) assignment.old.marks.items prices.old }
     requires levels { task.now.levels < 2 ^ 31 }
     requires inside { task.now.levels ≤ length path.old }
     requires depth { progress.depth ≤ task.now.levels }
     requires step { CanAdvance (plain_side task.now.side.now) path.old progress }
+    ensures same { length prices.new.list.items ≡ length prices.old.list.items }
+    ensures last { IfOk result (λ r. IsLast (plain_side task.now.side.now) assignment.new.marks.items prices.new) }
     ensures exact { IsAssignmentOf (plain_side task.now.side.now) assignment.new }
-    ensures fresh { IfOk result (λ r. AreFrom (length r.1.now) prices.new) }
+    ensures fresh { IfOk result (λ r. AreFrom (length r.1.now) prices.new.list.items) }
     ensures reads { (all : List ℕ) → Stands (text_of (plain_side task.now.side.now) task.now.judged task.now.best task.now.total task.now.levels all) path.old assignment.old.marks.items progress bytes.now
         → Advances (text_of (plain_side task.now.side.now) task.now.judged task.now.best task.now.total task.now.levels all) path.new assignment.new.marks.items result }
     ensures left { IfOk result (λ r. left r.0 r.1.now < left progress bytes.now) }
     ensures depth { IfOk result (λ r. r.0.depth ≤ task.now.levels) }
 {
     if progress.ended {
-        return Ok((leave(task.side, assignment, path, progress), bytes));
+        return Ok((leave(task.side, assignment, path, prices, progress), bytes));
     }
     read_node(task, assignment, path, prices, progress, bytes)
 }
@@ -299,17 +309,19 @@ pub(crate) fn walk_text<'a>(
     task: &Task,
     assignment: &mut Assignment,
     path: &mut [PathStep],
-    prices: &mut [Priced],
+    prices: &mut DualPrices,
     bytes: &'a [u8],
 ) -> Result<Walked<'a>, CertFault>
     requires best { task.now.best ≤ 2 ^ 104 }
     requires exact { IsAssignmentOf (plain_side task.now.side.now) assignment.old }
     requires free { assignment.old.marks.items ≡ all_free (plain_side task.now.side.now) }
     requires by_row { IsOfSide (plain_side task.now.side.now) (rows_of task.now.by_row.now) }
-    requires room { length (plain_side task.now.side.now).vars ≤ length prices.old }
-    requires fresh { AreFrom (length bytes.now) prices.old }
+    requires room { length (plain_side task.now.side.now).vars ≤ length prices.old.list.items }
+    requires fresh { AreFrom (length bytes.now) prices.old.list.items }
+    requires last { IsLast (plain_side task.now.side.now) assignment.old.marks.items prices.old }
     requires levels { task.now.levels < 2 ^ 31 }
     requires inside { task.now.levels ≤ length path.old }
+    ensures same { length prices.new.list.items ≡ length prices.old.list.items }
     ensures exact { IsAssignmentOf (plain_side task.now.side.now) assignment.new }
     ensures walked { TreeWalked (plain_side task.now.side.now) task.now.judged task.now.best result (tree_at task.now.total task.now.levels bytes.now) }
 {

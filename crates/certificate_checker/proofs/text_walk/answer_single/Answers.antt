@@ -17,4 +17,4 @@ returns-in-Ok-skip_single-clause-read c levels =
     (read.0, (read.1, subst (λ o. WalksOn (plain_side task.side.now) task.best c.args.assignment.now.marks.items read.0 o c.args.depth (Err c.in-Err.failing)) (sym c.in-Err.is) refl))
 
 pub returns-in-Ok-skip_single-clause-fresh : goal.returns-in-Ok-skip_single-clause-fresh
-returns-in-Ok-skip_single-clause-fresh c = from_less _ _ c.args.prices.now (omega arith) c.requires.fresh
+returns-in-Ok-skip_single-clause-fresh c = from_less _ _ c.args.prices.now.list.items (omega arith) c.requires.fresh

@@ -37,4 +37,4 @@ pub returns-clause-fresh : goal.returns-clause-fresh
 returns-clause-fresh c =
     let walked = c.in_ok-so_far.ensures.read 0 in
     let shorter = tree_shorter c.args.task.now.total 1 c.args.bytes.now walked.0 c.in_ok-so_far.rest.now (λ i. omega (arith, c.type_inv.bytes i)) walked.1.0 in
-    from_less _ _ c.answer_single.new.prices (omega (arith, shorter)) c.answer_single.ensures.fresh
+    from_less _ _ c.answer_single.new.prices.list.items (omega (arith, shorter)) c.answer_single.ensures.fresh

@@ -1,4 +1,4 @@
-use Rattle.std.proofs.Common.{subst, arith}
+use Rattle.std.proofs.Common.{refl, subst, arith}
 use Rattle.placement_programme.specs.Views.{plain_side}
 use Rattle.certificate_checker.specs.Ways.{text_of, StandsAt}
 use Rattle.certificate_checker.proofs.WayLemmas.{at_root, can_advance, walked}
@@ -12,6 +12,8 @@ loop-assignment-init c =
       depth = omega arith;
       exact = c.requires.exact;
       fresh = c.requires.fresh;
+      same = refl;
+      last = c.requires.last;
     }
 
 pub advance-requires-clause-step : goal.advance-requires-clause-step
