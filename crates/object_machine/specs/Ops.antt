@@ -1,5 +1,5 @@
 -- The names of units.
-use Rattle.std.specs.Prelude.{◌≡◌, ℕ, ◌+◌, ◌<◌, true, false, ◌||◌, List, length, slice_index_or, is_some, Option, Some, None}
+use Rattle.std.specs.Prelude.{◌≡◌, ℕ, ◌+◌, ◌<◌, Bool, true, false, ◌||◌, List, length, slice_index_or, is_some, Option, Some, None}
 use Rattle.std.specs.Int.{cast_signed, w32}
 use Rattle.std.specs.Coded.{Unit-prop, Coded-set, coded_bool, coded_ℕ, coded_option, le_prop}
 use Rattle.rv32im.specs.declared.instructions.Instr.{Instr}
@@ -55,11 +55,32 @@ pub record IsStraight (units : List Prepared) (starts : List ℕ) (k : ℕ) : Ty
   pub falls : ((unit_in units k).goes_on || has starts ((unit_in units k).at + 4)) ≡ true
   pub next : IsUnitAt units (k + 1) ((unit_in units k).at + 4)
 
--- it is this instruction alone, and one of those that lead to the next word is straight
+-- and the next one begins a block
+pub record IsLast (units : List Prepared) (starts : List ℕ) (k : ℕ) : Type 0 where
+  pub straight : IsStraight units starts k
+  pub behind : has starts ((unit_in units k).at + 4) ≡ true
+
+abbrev pub is_branch : Instr → Bool
+is_branch (instr.Branch kind rs1 rs2 off) = true
+is_branch (instr.Lui rd imm) = false
+is_branch (instr.Auipc rd imm) = false
+is_branch (instr.Jal rd off) = false
+is_branch (instr.Jalr rd rs1 imm) = false
+is_branch (instr.Load kind rd rs1 imm) = false
+is_branch (instr.Store kind rs1 rs2 imm) = false
+is_branch (instr.OpImm kind rd rs1 imm) = false
+is_branch (instr.OpReg kind rd rs1 rs2) = false
+is_branch (instr.Fence bits) = false
+is_branch (instr.FenceI bits) = false
+is_branch instr.Ecall = false
+is_branch instr.Ebreak = false
+
+-- it is this instruction alone; one of those that lead to the next word is straight, and a branch is the last of its block
 pub record IsNamed (units : List Prepared) (starts : List ℕ) (k : ℕ) (i : Instr) : Type 0 where
   pub instr : (unit_in units k).instr ≡ Some i
   pub pair : is_some (unit_in units k).pair ≡ false
   pub straight : leads_on i ≡ true → IsStraight units starts k
+  pub last : is_branch i ≡ true → IsLast units starts k
 
 abbrev pub NamedBy : List Prepared → List ℕ → ℕ → Option Instr → Type 0
 NamedBy units starts k None = Unit {0}
@@ -72,12 +93,19 @@ straight_prop units starts k = λ a b z. record {
   next = (le_prop a.next.0 b.next.0 z, Coded-set coded_ℕ _ _ a.next.1 b.next.1 z);
 }
 
+last_prop : (units : List Prepared) (starts : List ℕ) (k : ℕ) → IsProp (IsLast units starts k)
+last_prop units starts k = λ a b z. record {
+  straight = straight_prop units starts k a.straight b.straight z;
+  behind = Coded-set coded_bool _ _ a.behind b.behind z;
+}
+
 named_prop : (units : List Prepared) (starts : List ℕ) (k : ℕ) (o : Option Instr) → IsProp (NamedBy units starts k o)
 named_prop units starts k None = Unit-prop
 named_prop units starts k (Some i) = λ a b z. record {
   instr = Coded-set (coded_option coded_instr) _ _ a.instr b.instr z;
   pair = Coded-set coded_bool _ _ a.pair b.pair z;
   straight = λ leads. straight_prop units starts k (a.straight leads) (b.straight leads) z;
+  last = λ branches. last_prop units starts k (a.last branches) (b.last branches) z;
 }
 
 -- each unit has its name, of the first ones or of all

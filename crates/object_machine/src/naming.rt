@@ -1,7 +1,7 @@
 ghost use Rattle.std.specs.Prelude.{◌≡◌, ◌<◌, ℕ, List, true, false, Some, length, IfOk, IsTrue};
 ghost use Rattle.rv32im.specs.declared.instructions.Instr.{Instr};
 ghost use Rattle.std.specs.Int.{cast_signed, w32};
-ghost use Rattle.object_machine.specs.{declared.units.Prepared.{Prepared}, Landings.{AreLandings}, Units.{unit_in, leads_on}, Ops.{instr_of, IsStraight, IsNamed, NamedBy, AreOps}};
+ghost use Rattle.object_machine.specs.{declared.units.Prepared.{Prepared}, Landings.{AreLandings}, Units.{unit_in, leads_on}, Ops.{instr_of, IsStraight, IsLast, is_branch, IsNamed, NamedBy, AreOps}};
 
 use crate::landings::{is_unit_at, landing};
 use crate::op::Op;
@@ -31,6 +31,7 @@ fn name_of(units: &Vec<Prepared>, landings: &Vec<usize>, first: u64, k: usize) -
     ensures { (starts : List ℕ) → AreLandings units.now.items starts landings.now.items → NamedBy units.now.items starts k (instr_of result) }
 {
     let straight = is_straight(units, landings, first, k);
+    let last = is_last(units, landings, first, k);
     let unit = unit_at(units, k);
     if unit.pair.is_some() {
         return Op::Other;
@@ -38,6 +39,9 @@ fn name_of(units: &Vec<Prepared>, landings: &Vec<usize>, first: u64, k: usize) -
     let Some(i) = unit.instr else {
         return Op::Other;
     };
+    if is_branch(i) && !last {
+        return Op::Other;
+    }
     if straight {
         straight_name(i)
     } else {
@@ -69,6 +73,34 @@ fn is_straight(units: &Vec<Prepared>, landings: &Vec<usize>, first: u64, k: usiz
     match landing(landings, units, first, behind) {
         Some(_) => true,
         None => false,
+    }
+}
+
+/// Whether the unit at a place is straight, and the next one begins a block.
+fn is_last(units: &Vec<Prepared>, landings: &Vec<usize>, first: u64, k: usize) -> bool
+    requires { k < length units.now.items }
+    ensures { IsTrue result → (starts : List ℕ) → AreLandings units.now.items starts landings.now.items → IsLast units.now.items starts k }
+{
+    if !is_straight(units, landings, first, k) {
+        return false;
+    }
+    match landing(landings, units, first, u64::from(unit_at(units, k).at) + 4) {
+        Some(_) => true,
+        None => false,
+    }
+}
+
+/// Whether an instruction is a conditional branch.
+fn is_branch(i: Instr) -> bool
+    ensures { result ≡ is_branch i }
+{
+    match i {
+        Instr::Branch { .. } => true,
+        Instr::Lui { .. } | Instr::Auipc { .. } | Instr::Jal { .. } | Instr::Jalr { .. } => false,
+        Instr::Load { .. } | Instr::Store { .. } | Instr::OpImm { .. } | Instr::OpReg { .. } => {
+            false
+        }
+        Instr::Fence { .. } | Instr::FenceI { .. } | Instr::Ecall | Instr::Ebreak => false,
     }
 }
 

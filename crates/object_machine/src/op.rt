@@ -1,7 +1,8 @@
 use rv32im::{ImmKind, RegKind};
 
 /// A unit by one name for its opcode and its kind, so that one jump leads to what performs it. Signed fields are words. A unit that
-/// leads to the next word has a name only if the next unit is of its block or begins another, and it is no site.
+/// leads to the next word has a name only if the next unit is of its block or begins another, and it is no site; a branch, only if
+/// that holds of it, and the next unit begins a block.
 #[derive(Clone, Copy)]
 pub(crate) enum Op {
     Lui {

@@ -6,6 +6,7 @@ use crate::op::Op;
 use crate::spots::Spot;
 use crate::widths::{load_bytes, store_bytes};
 use cell_values::{Val, compare};
+use rv32im::BranchKind::{Beq, Bge, Bgeu, Blt, Bltu, Bne};
 use rv32im::{BranchKind, ImmKind, LoadKind, RegKind, StoreKind, imm_result, reg_result, takes};
 
 impl Source {
@@ -24,6 +25,9 @@ impl Source {
         self.tables.op_at(self.place)
     }
 
+    // A method that several arms call takes the number of the arm, and so has a copy for each, with its kind known: what has one
+    // caller is inlined there.
+
     /// Performs the present unit by its name, if it has one and the machine goes on. Tells of its access.
     #[inline(always)]
     pub(super) fn perform_named<const LOOP: u8>(&mut self, op: Op) -> Option<Option<Access>>
@@ -32,35 +36,35 @@ impl Source {
         ensures { Tried self.old self.new result }
     {
         match op {
-            Op::Lui { rd, imm } => self.named_lui(rd, imm),
-            Op::Jal { rd, off } => self.named_jal(rd, off),
-            Op::Jalr { rd, rs1, imm } => self.named_jalr(rd, rs1, imm),
-            Op::Beq { rs1, rs2, off } => self.named_branch(BranchKind::Beq, rs1, rs2, off),
-            Op::Bne { rs1, rs2, off } => self.named_branch(BranchKind::Bne, rs1, rs2, off),
-            Op::Blt { rs1, rs2, off } => self.named_branch(BranchKind::Blt, rs1, rs2, off),
-            Op::Bge { rs1, rs2, off } => self.named_branch(BranchKind::Bge, rs1, rs2, off),
-            Op::Bltu { rs1, rs2, off } => self.named_branch(BranchKind::Bltu, rs1, rs2, off),
-            Op::Bgeu { rs1, rs2, off } => self.named_branch(BranchKind::Bgeu, rs1, rs2, off),
-            Op::Lb { rd, rs1, imm } => self.named_load(LoadKind::Lb, rd, rs1, imm),
-            Op::Lh { rd, rs1, imm } => self.named_load(LoadKind::Lh, rd, rs1, imm),
-            Op::Lw { rd, rs1, imm } => self.named_load(LoadKind::Lw, rd, rs1, imm),
-            Op::Lbu { rd, rs1, imm } => self.named_load(LoadKind::Lbu, rd, rs1, imm),
-            Op::Lhu { rd, rs1, imm } => self.named_load(LoadKind::Lhu, rd, rs1, imm),
-            Op::Sb { rs1, rs2, imm } => self.named_store(StoreKind::Sb, rs1, rs2, imm),
-            Op::Sh { rs1, rs2, imm } => self.named_store(StoreKind::Sh, rs1, rs2, imm),
-            Op::Sw { rs1, rs2, imm } => self.named_store(StoreKind::Sw, rs1, rs2, imm),
-            Op::Addi { rd, rs1, imm } => self.named_imm(ImmKind::Addi, rd, rs1, imm),
-            Op::Andi { rd, rs1, imm } => self.named_imm(ImmKind::Andi, rd, rs1, imm),
-            Op::Slli { rd, rs1, imm } => self.named_imm(ImmKind::Slli, rd, rs1, imm),
-            Op::Srli { rd, rs1, imm } => self.named_imm(ImmKind::Srli, rd, rs1, imm),
-            Op::OpImm { kind, rd, rs1, imm } => self.named_imm(kind, rd, rs1, imm),
-            Op::Add { rd, rs1, rs2 } => self.named_reg(RegKind::Add, rd, rs1, rs2),
-            Op::Sub { rd, rs1, rs2 } => self.named_reg(RegKind::Sub, rd, rs1, rs2),
-            Op::Xor { rd, rs1, rs2 } => self.named_reg(RegKind::Xor, rd, rs1, rs2),
-            Op::Or { rd, rs1, rs2 } => self.named_reg(RegKind::Or, rd, rs1, rs2),
-            Op::And { rd, rs1, rs2 } => self.named_reg(RegKind::And, rd, rs1, rs2),
-            Op::Mul { rd, rs1, rs2 } => self.named_reg(RegKind::Mul, rd, rs1, rs2),
-            Op::OpReg { kind, rd, rs1, rs2 } => self.named_reg(kind, rd, rs1, rs2),
+            Op::Lui { rd, imm } => self.named_lui::<LOOP>(rd, imm),
+            Op::Jal { rd, off } => self.named_jal::<LOOP>(rd, off),
+            Op::Jalr { rd, rs1, imm } => self.named_jalr::<LOOP>(rd, rs1, imm),
+            Op::Beq { rs1, rs2, off } => self.named_branch::<LOOP, 0>(Beq, rs1, rs2, off),
+            Op::Bne { rs1, rs2, off } => self.named_branch::<LOOP, 1>(Bne, rs1, rs2, off),
+            Op::Blt { rs1, rs2, off } => self.named_branch::<LOOP, 2>(Blt, rs1, rs2, off),
+            Op::Bge { rs1, rs2, off } => self.named_branch::<LOOP, 3>(Bge, rs1, rs2, off),
+            Op::Bltu { rs1, rs2, off } => self.named_branch::<LOOP, 4>(Bltu, rs1, rs2, off),
+            Op::Bgeu { rs1, rs2, off } => self.named_branch::<LOOP, 5>(Bgeu, rs1, rs2, off),
+            Op::Lb { rd, rs1, imm } => self.named_load::<LOOP, 0>(LoadKind::Lb, rd, rs1, imm),
+            Op::Lh { rd, rs1, imm } => self.named_load::<LOOP, 1>(LoadKind::Lh, rd, rs1, imm),
+            Op::Lw { rd, rs1, imm } => self.named_load::<LOOP, 2>(LoadKind::Lw, rd, rs1, imm),
+            Op::Lbu { rd, rs1, imm } => self.named_load::<LOOP, 3>(LoadKind::Lbu, rd, rs1, imm),
+            Op::Lhu { rd, rs1, imm } => self.named_load::<LOOP, 4>(LoadKind::Lhu, rd, rs1, imm),
+            Op::Sb { rs1, rs2, imm } => self.named_store::<LOOP, 0>(StoreKind::Sb, rs1, rs2, imm),
+            Op::Sh { rs1, rs2, imm } => self.named_store::<LOOP, 1>(StoreKind::Sh, rs1, rs2, imm),
+            Op::Sw { rs1, rs2, imm } => self.named_store::<LOOP, 2>(StoreKind::Sw, rs1, rs2, imm),
+            Op::Addi { rd, rs1, imm } => self.named_imm::<LOOP, 0>(ImmKind::Addi, rd, rs1, imm),
+            Op::Andi { rd, rs1, imm } => self.named_imm::<LOOP, 1>(ImmKind::Andi, rd, rs1, imm),
+            Op::Slli { rd, rs1, imm } => self.named_imm::<LOOP, 2>(ImmKind::Slli, rd, rs1, imm),
+            Op::Srli { rd, rs1, imm } => self.named_imm::<LOOP, 3>(ImmKind::Srli, rd, rs1, imm),
+            Op::OpImm { kind, rd, rs1, imm } => self.named_imm::<LOOP, 4>(kind, rd, rs1, imm),
+            Op::Add { rd, rs1, rs2 } => self.named_reg::<LOOP, 0>(RegKind::Add, rd, rs1, rs2),
+            Op::Sub { rd, rs1, rs2 } => self.named_reg::<LOOP, 1>(RegKind::Sub, rd, rs1, rs2),
+            Op::Xor { rd, rs1, rs2 } => self.named_reg::<LOOP, 2>(RegKind::Xor, rd, rs1, rs2),
+            Op::Or { rd, rs1, rs2 } => self.named_reg::<LOOP, 3>(RegKind::Or, rd, rs1, rs2),
+            Op::And { rd, rs1, rs2 } => self.named_reg::<LOOP, 4>(RegKind::And, rd, rs1, rs2),
+            Op::Mul { rd, rs1, rs2 } => self.named_reg::<LOOP, 5>(RegKind::Mul, rd, rs1, rs2),
+            Op::OpReg { kind, rd, rs1, rs2 } => self.named_reg::<LOOP, 6>(kind, rd, rs1, rs2),
             Op::Other => None,
         }
     }
@@ -89,7 +93,7 @@ impl Source {
 
     /// LUI.
     #[inline(always)]
-    fn named_lui(&mut self, rd: u8, imm: u32) -> Option<Option<Access>>
+    fn named_lui<const LOOP: u8>(&mut self, rd: u8, imm: u32) -> Option<Option<Access>>
         requires rd { rd < 32 }
         requires imm { imm < 1048576 }
         requires named { IsPresent self.old (Instr.Lui rd imm) }
@@ -101,7 +105,13 @@ impl Source {
 
     /// An operation on a register and an immediate.
     #[inline(always)]
-    fn named_imm(&mut self, kind: ImmKind, rd: u8, rs1: u8, imm: u32) -> Option<Option<Access>>
+    fn named_imm<const LOOP: u8, const ARM: u8>(
+        &mut self,
+        kind: ImmKind,
+        rd: u8,
+        rs1: u8,
+        imm: u32,
+    ) -> Option<Option<Access>>
         requires rd { rd < 32 }
         requires rs1 { rs1 < 32 }
         requires named { IsPresent self.old (Instr.OpImm kind rd rs1 (cast_signed w32 imm)) }
@@ -137,7 +147,13 @@ impl Source {
 
     /// An operation on two registers.
     #[inline(always)]
-    fn named_reg(&mut self, kind: RegKind, rd: u8, rs1: u8, rs2: u8) -> Option<Option<Access>>
+    fn named_reg<const LOOP: u8, const ARM: u8>(
+        &mut self,
+        kind: RegKind,
+        rd: u8,
+        rs1: u8,
+        rs2: u8,
+    ) -> Option<Option<Access>>
         requires rd { rd < 32 }
         requires rs1 { rs1 < 32 }
         requires rs2 { rs2 < 32 }
@@ -184,7 +200,7 @@ impl Source {
 
     /// A conditional branch.
     #[inline(always)]
-    fn named_branch(
+    fn named_branch<const LOOP: u8, const ARM: u8>(
         &mut self,
         kind: BranchKind,
         rs1: u8,
@@ -196,12 +212,20 @@ impl Source {
         requires named { IsPresent self.old (Instr.Branch kind rs1 rs2 (cast_signed w32 off)) }
         ensures { Tried self.old self.new result }
     {
-        let target = match self.is_taken(kind, rs1, rs2) {
-            Some(true) => self.pc.wrapping_add(off),
-            Some(false) => self.pc + 4,
-            None => return None,
-        };
-        if self.land(target) { Some(None) } else { None }
+        match self.is_taken(kind, rs1, rs2) {
+            Some(true) => {
+                if self.land(self.pc.wrapping_add(off)) {
+                    Some(None)
+                } else {
+                    None
+                }
+            }
+            Some(false) => {
+                self.advance();
+                Some(None)
+            }
+            None => None,
+        }
     }
 
     /// Whether a branch is taken, if that is known.
@@ -236,7 +260,7 @@ impl Source {
 
     /// JAL.
     #[inline(always)]
-    fn named_jal(&mut self, rd: u8, off: u32) -> Option<Option<Access>>
+    fn named_jal<const LOOP: u8>(&mut self, rd: u8, off: u32) -> Option<Option<Access>>
         requires rd { rd < 32 }
         requires named { IsPresent self.old (Instr.Jal rd (cast_signed w32 off)) }
         ensures { Tried self.old self.new result }
@@ -254,7 +278,7 @@ impl Source {
 
     /// JALR, by a number to a block that a register may lead to.
     #[inline(always)]
-    fn named_jalr(&mut self, rd: u8, rs1: u8, imm: u32) -> Option<Option<Access>>
+    fn named_jalr<const LOOP: u8>(&mut self, rd: u8, rs1: u8, imm: u32) -> Option<Option<Access>>
         requires rd { rd < 32 }
         requires rs1 { rs1 < 32 }
         requires named { IsPresent self.old (Instr.Jalr rd rs1 (cast_signed w32 imm)) }
@@ -294,7 +318,13 @@ impl Source {
 
     /// A load.
     #[inline(always)]
-    fn named_load(&mut self, kind: LoadKind, rd: u8, rs1: u8, imm: u32) -> Option<Option<Access>>
+    fn named_load<const LOOP: u8, const ARM: u8>(
+        &mut self,
+        kind: LoadKind,
+        rd: u8,
+        rs1: u8,
+        imm: u32,
+    ) -> Option<Option<Access>>
         requires rd { rd < 32 }
         requires rs1 { rs1 < 32 }
         requires named { IsPresent self.old (Instr.Load kind rd rs1 (cast_signed w32 imm)) }
@@ -313,7 +343,13 @@ impl Source {
 
     /// A store.
     #[inline(always)]
-    fn named_store(&mut self, kind: StoreKind, rs1: u8, rs2: u8, imm: u32) -> Option<Option<Access>>
+    fn named_store<const LOOP: u8, const ARM: u8>(
+        &mut self,
+        kind: StoreKind,
+        rs1: u8,
+        rs2: u8,
+        imm: u32,
+    ) -> Option<Option<Access>>
         requires rs1 { rs1 < 32 }
         requires rs2 { rs2 < 32 }
         requires named { IsPresent self.old (Instr.Store kind rs1 rs2 (cast_signed w32 imm)) }

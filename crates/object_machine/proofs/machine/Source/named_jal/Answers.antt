@@ -8,7 +8,7 @@ use Rattle.object_machine.proofs.NamedLemmas.{linked}
 use Rattle.object_machine.proofs.machine.Source.named_jal.Goals as goal
 
 pub returns-in-Some : goal.returns-in-Some
-returns-in-Some c =
+returns-in-Some g c =
     let m = c.args.self.now in
     let off = c.args.off in
     let target : ℕ = offset m.pc (cast_signed w32 off) in

@@ -9,7 +9,7 @@ use Rattle.object_machine.proofs.NamedLemmas.{wrote_on}
 use Rattle.object_machine.proofs.machine.Source.named_reg.Goals as goal
 
 pub returns-in-Int-register : goal.returns-in-Int-register
-returns-in-Int-register c =
+returns-in-Int-register g c =
     let m = c.args.self.now in
     let regs = (seen_state m).regs in
     let first = sym c.register.ensures.value ∙ c.in-Int.is in
