@@ -1,4 +1,4 @@
-ghost use Rattle.std.specs.Prelude.{◌≡◌, ℕ, true, length};
+ghost use Rattle.std.specs.Prelude.{◌≡◌, ℕ, ◌+◌, ◌<◌, true, length, IsTrue};
 ghost use Rattle.std.specs.List.{list_any};
 ghost use Rattle.object_graph.specs.Sites.{in_range};
 ghost use Rattle.object_machine.specs.{Landings.{AreLandings}, Ops.{AreOps, AreOps-prop}, Numbering.{HasNumbers}, Units.{AreFit, AreJoined, AreStarts}, Layout.{AreAscending, EndBelow, HasDisjointObjects, LieOff, AreAmong, is_grain}};
@@ -81,8 +81,16 @@ impl Tables {
         requires { at + n ≤ 4294967296 }
         ensures { IsTrue result → (i : ℕ) → i < n → is_in_some self.now.fixed.items (at + i) ≡ true }
     {
-        let Range { base, size } = self.widest;
-        at >= base && at - base <= size && n <= size - (at - base)
+        holds(self.widest, at, n)
+    }
+
+    /// Whether the `n` bytes from an address on lie in one range of fixed memory, by binary search.
+    pub(crate) fn is_in_one(&self, at: u32, n: u32) -> bool
+        requires { at + n ≤ 4294967296 }
+        ensures { IsTrue result → (i : ℕ) → i < n → is_in_some self.now.fixed.items (at + i) ≡ true }
+    {
+        let begun = self.fixed.partition_point(|range| range.base <= at);
+        begun > 0 && holds(self.fixed[begun - 1], at, n)
     }
 
     /// The first unit of the block that begins at an address, if one does.
@@ -138,4 +146,13 @@ impl Tables {
             None => None,
         }
     }
+}
+
+/// Whether a range holds the `n` bytes from an address on.
+#[inline(always)]
+fn holds(range: Range, at: u32, n: u32) -> bool
+    ensures { IsTrue result → (i : ℕ) → i < n → in_range range (at + i) ≡ true }
+{
+    let Range { base, size } = range;
+    at >= base && at - base <= size && n <= size - (at - base)
 }

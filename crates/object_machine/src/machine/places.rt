@@ -123,6 +123,18 @@ impl Source {
         if self.tables.is_wide(at, n) {
             return None;
         }
+        self.searched_fault(at, n)
+    }
+
+    /// The same, by a search among the ranges of fixed memory.
+    #[inline(never)]
+    fn searched_fault(&self, at: u32, n: u32) -> Option<u32>
+        requires { at + n ≤ 4294967296 }
+        ensures { result ≡ first_below (fault_from (seen self.now) at) n }
+    {
+        if self.tables.is_in_one(at, n) {
+            return None;
+        }
         self.found_fault(at, n)
     }
 
