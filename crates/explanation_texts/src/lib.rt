@@ -21,6 +21,7 @@ mod runs;
 mod savings;
 mod staying;
 mod terminal;
+mod thread_locals;
 mod usage;
 
 pub use answers::{explain_status, say_listed, say_many_blocks, say_small_patch};

@@ -10,7 +10,7 @@ pub(crate) fn put_place(notes: &mut Notes, file: &UncheckedFile, address: u32) {
     ]);
     match file.code_symbol(address) {
         Some(function) => notes.put(&[
-            Piece::Name(function.name),
+            Piece::Name(file.text(function.name)),
             Piece::Text(" + "),
             Piece::Number(u64::from(address.wrapping_sub(function.value))),
         ]),

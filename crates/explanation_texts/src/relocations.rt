@@ -1,7 +1,8 @@
 use crate::cures::{Cure, CureRow, OTHER_RELOCATION, cure_of, text_at};
 use crate::notes::{Notes, Piece};
 use crate::places::put_place;
-use unchecked_file::{RawRelocation, UncheckedFile};
+use crate::thread_locals::{is_thread_local, say_thread_local};
+use unchecked_file::UncheckedFile;
 
 /// The names of the kinds of relocations (RISC-V psABI, "Relocations").
 const KINDS: [&str; 60] = [
@@ -92,28 +93,6 @@ const CURES: [CureRow; 3] = [
     },
 ];
 
-/// The kinds of thread-local symbols.
-const THREAD_LOCAL: [u32; 14] = [6, 7, 8, 9, 10, 11, 21, 22, 29, 30, 31, 32, 49, 50];
-
-/// How many uses of thread-local symbols are told.
-const TOLD_USES: usize = 8;
-
-/// The thread-local variable of the C library.
-const ERRNO: &[u8] = b"errno";
-
-const ERRNO_CURE: &str =
-    "errno is the C library's: link functions of your own that set none, in place of those above, in front of it; where your own sources name errno, compile these with -D__PICOLIBC_ERRNO_FUNCTION=NAME, where int *NAME(void) is yours";
-
-const VARIABLE_CURE: &str =
-    "leave _Thread_local (thread_local, __thread) out of the declarations, or take the switch of the library that does so";
-
-/// A use of a thread-local symbol, by a function.
-#[derive(Clone, Copy, PartialEq, Eq)]
-struct ThreadLocalUse<'a> {
-    symbol: &'a [u8],
-    function: &'a [u8],
-}
-
 /// A relocation of a kind that is not supported.
 pub(crate) fn say_unsupported(notes: &mut Notes, file: &UncheckedFile, index: u32, kind: u32) {
     if let Some(relocation) = file.relocation(index) {
@@ -121,95 +100,24 @@ pub(crate) fn say_unsupported(notes: &mut Notes, file: &UncheckedFile, index: u3
         notes.put(&[
             Piece::Number(u64::from(index)),
             Piece::Text(" in section "),
-            Piece::Name(relocation.section),
+            Piece::Name(file.section_name(relocation.section)),
             Piece::Text(" is "),
         ]);
         put_kind(notes, kind);
-        notes.put(&[Piece::Text(" of "), Piece::Name(relocation.symbol)]);
+        notes.put(&[
+            Piece::Text(" of "),
+            Piece::Name(file.text(relocation.symbol.name)),
+        ]);
         notes.end("");
         notes.begin("it changes the word");
         put_place(notes, file, relocation.at);
         notes.end("");
     }
-    if THREAD_LOCAL.contains(&kind) {
+    if is_thread_local(kind) {
         say_thread_local(notes, file);
         return;
     }
     cure_of(&CURES, kind, OTHER_RELOCATION).say(notes);
-}
-
-/// The thread-local symbols that relocations name, each once for each function that uses it, and what to do.
-fn say_thread_local(notes: &mut Notes, file: &UncheckedFile) {
-    notes.say_words("the symbol is thread-local: it is found by the tp register. All such are:");
-    let mut uses = Vec::new(notes.alloc());
-    for index in 0..file.relocations() {
-        if let Some(relocation) = file.relocation(index) {
-            note_use(notes, file, &relocation, &mut uses);
-        }
-    }
-    if uses.len() > TOLD_USES {
-        let more = uses.len().saturating_sub(TOLD_USES) as u64;
-        notes.say_number("  and ", more, " more");
-    }
-    say_owners(notes, &uses);
-}
-
-/// Tells a use of a thread-local symbol that was not told before.
-fn note_use<'a>(
-    notes: &mut Notes,
-    file: &UncheckedFile<'a>,
-    relocation: &RawRelocation<'a>,
-    uses: &mut Vec<ThreadLocalUse<'a>>,
-) {
-    if !THREAD_LOCAL.contains(&relocation.kind) {
-        return;
-    }
-    let found = ThreadLocalUse {
-        symbol: relocation.symbol,
-        function: match file.code_symbol(relocation.at) {
-            Some(function) => function.name,
-            None => &[],
-        },
-    };
-    if uses.contains(&found) {
-        return;
-    }
-    if uses.push(found).is_err() {
-        notes.cut();
-        return;
-    }
-    if uses.len() > TOLD_USES {
-        return;
-    }
-    notes.begin("  ");
-    notes.put(&[Piece::Name(relocation.symbol)]);
-    let source = file.source_of(relocation);
-    if !source.is_empty() {
-        notes.put(&[Piece::Text(" of "), Piece::Name(source)]);
-    }
-    notes.put(&[Piece::Text(", used")]);
-    put_place(notes, file, relocation.at);
-    notes.end("");
-}
-
-/// What to do, by whose the symbols are: the C library's `errno`, or variables of other sources.
-fn say_owners(notes: &mut Notes, uses: &[ThreadLocalUse]) {
-    let mut errors: usize = 0;
-    for found in uses {
-        if found.symbol == ERRNO {
-            errors = errors.saturating_add(1);
-        }
-    }
-    if errors == 0 {
-        notes.say_first(VARIABLE_CURE);
-        return;
-    }
-    notes.say_first(ERRNO_CURE);
-    if errors == uses.len() {
-        return;
-    }
-    notes.begin("then, of the others: ");
-    notes.end(VARIABLE_CURE);
 }
 
 /// Goes on with a line by the name of a kind, or its number where it has none.

@@ -1,8 +1,8 @@
-use crate::section_map::SectionMap;
 use elf_reader::ElfView;
 use loaded_file::{ByteRange, LoadedFile, counts, object_ranges, symbol_value, target};
 use object_graph::{Graph, is_alias};
 use std::alloc::{AllocError, Global};
+use unchecked_file::SectionMap;
 
 /// The objects of a section.
 #[derive(Clone, Copy)]
@@ -38,8 +38,8 @@ pub(crate) struct ObjectCensus {
     pub(crate) sections: Vec<SectionObjects>,
 }
 
-/// Counts the objects of a file, and finds for each section a label that pins its objects. It fails only where no
-/// memory was left.
+/// Counts the objects of a file, whose sections a map has, and finds for each section a label that pins its objects. It fails
+/// only where no memory was left.
 ///
 /// The time grows with n log n, where n is the number of sections, symbols and relocations, and with the number of
 /// sections times that of segments.
@@ -47,20 +47,20 @@ pub(crate) fn census(
     alloc: Global,
     view: &ElfView,
     graph: &Graph,
+    map: &SectionMap,
 ) -> Result<ObjectCensus, AllocError> {
     let file = LoadedFile::of(alloc, view)?;
     let ranges = object_ranges(alloc, &file)?;
-    let map = SectionMap::of(alloc, view)?;
     let mut sections = vec![in alloc; NO_OBJECTS; view.sections.len()]?;
     for range in &ranges {
         if is_movable(graph, range) {
             continue;
         }
-        if let Some(section) = section_of(&mut sections, &map, range.home) {
+        if let Some(section) = section_of(&mut sections, map, range.home) {
             section.fixed = section.fixed.saturating_add(1);
         }
     }
-    note_labels(&mut sections, &map, &file, &ranges);
+    note_labels(&mut sections, map, &file, &ranges);
     Ok(ObjectCensus {
         total: ranges.len() as u64,
         sections,
@@ -89,7 +89,7 @@ fn section_of<'a>(
     map: &SectionMap,
     address: u32,
 ) -> Option<&'a mut SectionObjects> {
-    sections.get_mut(map.section_at(address)?)
+    sections.get_mut(map.section_at(address)? as usize)
 }
 
 /// Whether a range is that of an object that may move.

@@ -18,7 +18,6 @@ mod regions;
 mod room;
 mod runs;
 mod savings;
-mod section_map;
 mod stakes;
 mod staying;
 mod subject;

@@ -1,7 +1,9 @@
+use crate::subject::Subject;
 use elf_reader::{ElfView, STT_OBJECT};
 use explanation_texts::is_anchor;
 use object_graph::Graph;
-use std::alloc::{AllocError, Global};
+use std::alloc::AllocError;
+use unchecked_file::NameNumbers;
 
 /// `st_info`: the symbol names a source file, of which the local symbols behind it are.
 const FILE_SYMBOL: u8 = 4;
@@ -32,25 +34,34 @@ pub(crate) fn name_at<'a>(view: &ElfView<'a>, address: u32) -> &'a [u8] {
     &[]
 }
 
-/// The names of the sources that have anchors in a section, as far as the file tells them, each once.
+/// The names of the sources that have anchors in a section, as far as the file tells them, each once, in order. The time grows
+/// with n log n, where n is the number of symbols, and with the lengths of the names, each once.
 pub(crate) fn anchor_sources<'a>(
-    alloc: Global,
-    view: &ElfView<'a>,
+    subject: &Subject<'a>,
     section: usize,
 ) -> Result<Vec<&'a [u8]>, AllocError> {
-    let mut sources: Vec<&'a [u8]> = Vec::new(alloc);
-    let mut source: &'a [u8] = &[];
-    for symbol in &view.symbols {
+    let alloc = subject.inputs.alloc;
+    let file = subject.inputs.unchecked();
+    let mut sources = Vec::new(alloc);
+    let Some(table) = file.symbol_table() else {
+        return Ok(sources);
+    };
+    let mut names = NameNumbers::of(alloc, &file);
+    let mut source: (u32, &'a [u8]) = (0, &[]);
+    let mut number: u32 = 0;
+    for symbol in &subject.analysis.view.symbols {
         if symbol.kind == FILE_SYMBOL {
-            source = symbol.name;
+            source = (file.symbol(&table, number).name, symbol.name);
         }
+        let (place, name) = source;
         if is_anchor(symbol.name)
             && symbol.section as usize == section
-            && !source.is_empty()
-            && !sources.contains(&source)
+            && !name.is_empty()
+            && names.number_at(place)? == sources.len()
         {
-            sources.push(source)?;
+            sources.push(name)?;
         }
+        number = number.saturating_add(1);
     }
     Ok(sources)
 }

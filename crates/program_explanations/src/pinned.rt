@@ -10,6 +10,7 @@ use explanation_texts::{
 };
 use object_machine::Outcome;
 use std::alloc::{AllocError, Global};
+use unchecked_file::SectionMap;
 
 /// How the label of a table begins that a linker collects of a section, and that a program walks.
 const TABLE_START: &[u8] = b"__start_";
@@ -58,7 +59,8 @@ pub(crate) fn explain_pinned(
         tells_bss: gives_key(inputs.board_text(), b"bss"),
         bss_movable: subject.board.bss_movable,
     };
-    let census = census(inputs.alloc, view, graph)?;
+    let sections = SectionMap::of(inputs.alloc, &inputs.unchecked())?;
+    let census = census(inputs.alloc, view, graph, &sections)?;
     let pinned = pinned_sections(inputs.alloc, view, &census, &relinked)?;
     if !has_moved {
         let movable = graph.objects.len() as u64;
@@ -173,7 +175,7 @@ fn say_section(
     objects: &PinnedObjects,
 ) -> Result<(), AllocError> {
     let view = &subject.analysis.view;
-    let sources = anchor_sources(notes.alloc(), view, objects.section)?;
+    let sources = anchor_sources(subject, objects.section)?;
     let label = match objects.label {
         Some(label) => Some(Label {
             name: symbol_name(view, label.symbol),

@@ -5,6 +5,7 @@ use explanation_texts::{Barrier, Notes, say_full_patch, say_idle_driver, say_los
 use relink_core::Analysis;
 use rv32im::RegSet;
 use std::alloc::{AllocError, Global};
+use std::collections::BTreeSet;
 
 /// The driver of a board that names none.
 const USUAL_DRIVER: &str = "main";
@@ -42,17 +43,19 @@ fn has_region(of_block: &[u32]) -> bool {
     false
 }
 
-/// Where control enters functions with these names, and no register is dead: the first such block of each.
+/// Where control enters functions with these names, and no register is dead: the first such block of each, of the first
+/// functions. The time grows with n log n, where n is the number of names, functions and blocks.
 fn barriers_of<'a>(
     alloc: Global,
     analysis: &Analysis<'a>,
     names: &[String],
 ) -> Result<Vec<Barrier<'a>>, AllocError> {
+    let listed = listed_names(alloc, names)?;
     let mut barriers = Vec::new(alloc);
-    for (place, function) in analysis.code.functions.iter().enumerate() {
+    for function in &analysis.code.functions {
         let name = symbol_name(&analysis.view, function.name);
-        if lists(names, name) && barriers.len() < TOLD_BARRIERS {
-            if let Some(leader) = barred_leader(analysis, place, function) {
+        if barriers.len() < TOLD_BARRIERS && listed.contains(name) {
+            if let Some(leader) = barred_leader(analysis, function) {
                 barriers.push(Barrier {
                     function: name,
                     leader,
@@ -63,23 +66,27 @@ fn barriers_of<'a>(
     Ok(barriers)
 }
 
-fn lists(names: &[String], name: &[u8]) -> bool {
-    for listed in names {
-        if listed.as_bytes() == name {
-            return true;
-        }
+/// The names of a region.
+fn listed_names(alloc: Global, names: &[String]) -> Result<BTreeSet<&[u8]>, AllocError> {
+    let mut listed = BTreeSet::new(alloc);
+    for name in names {
+        listed.insert(name.as_bytes())?;
     }
-    false
+    Ok(listed)
 }
 
 /// The first block of a function by which control enters it, at its beginning or by an address in a register, and where no register
 /// is dead.
-fn barred_leader(analysis: &Analysis<'_>, place: usize, function: &Function) -> Option<u32> {
-    for block in &analysis.code.blocks {
+fn barred_leader(analysis: &Analysis<'_>, function: &Function) -> Option<u32> {
+    let blocks = &analysis.code.blocks;
+    let first = blocks.partition_point(|block| block.start < function.start);
+    for block in blocks.get(first..).unwrap_or_default() {
+        if block.start.wrapping_sub(function.start) >= function.size {
+            break;
+        }
         let is_called = block.start == function.start;
         let is_entered = is_called || analysis.code.indirect.binary_search(&block.start).is_ok();
-        if block.function.unwrap_or(u32::MAX) as usize == place
-            && is_entered
+        if is_entered
             && analysis
                 .live
                 .dead_at(block.start, RegSet { bits: 0 })

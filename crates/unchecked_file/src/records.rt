@@ -36,7 +36,8 @@ pub struct RawSection {
     /// The address of its first byte.
     pub addr: u32,
     offset: u32,
-    size: u32,
+    /// How many bytes it has.
+    pub(crate) size: u32,
     link: u32,
     info: u32,
 }
@@ -56,39 +57,32 @@ pub struct RawSegment {
     pub memsz: u32,
 }
 
-/// A function or a label.
+/// A symbol. Its name may be long, and is read where it is told.
 #[derive(Clone, Copy)]
-pub struct RawSymbol<'a> {
-    /// Its name, without the zero byte.
-    pub name: &'a [u8],
+pub struct RawSymbol {
+    /// Where its name begins in the file.
+    pub name: u32,
     /// Its address.
     pub value: u32,
-}
-
-/// The fields of a symbol. Names may be long, and are read where they are told.
-#[derive(Clone, Copy)]
-struct SymbolFields {
-    /// Where its name begins in the file.
-    name: u32,
-    value: u32,
     kind: u32,
-    section: u32,
+    /// The number of its section.
+    pub(crate) section: u32,
 }
 
 /// A relocation that stands in the file.
 #[derive(Clone, Copy)]
-pub struct RawRelocation<'a> {
+pub struct RawRelocation {
     /// The address of what it changes.
     pub at: u32,
     /// Its kind (RISC-V psABI, "Relocations").
     pub kind: u32,
-    /// The name of its symbol.
-    pub symbol: &'a [u8],
+    /// Its symbol.
+    pub symbol: RawSymbol,
     /// The number of its symbol, and the section of the table that has it.
     number: u32,
     table: RawSection,
-    /// The name of the section that it changes.
-    pub section: &'a [u8],
+    /// The number of the section that it changes.
+    pub section: u32,
 }
 
 impl<'a> UncheckedFile<'a> {
@@ -162,7 +156,7 @@ impl<'a> UncheckedFile<'a> {
     }
 
     /// The text at byte `at` of the file, without the zero byte that ends it.
-    fn text(&self, at: u32) -> &'a [u8] {
+    pub fn text(&self, at: u32) -> &'a [u8] {
         let Some(rest) = self.bytes.get(at as usize..) else {
             return &[];
         };
@@ -173,10 +167,10 @@ impl<'a> UncheckedFile<'a> {
     }
 
     /// Symbol `k` of a table.
-    fn symbol(&self, table: &RawSection, k: u32) -> SymbolFields {
+    pub fn symbol(&self, table: &RawSection, k: u32) -> RawSymbol {
         let at = UncheckedFile::record(table.offset, SYMBOL_SIZE, k);
         let names = self.section(table.link).offset;
-        SymbolFields {
+        RawSymbol {
             name: names.saturating_add(self.word(at, 0)),
             value: self.word(at, 4),
             kind: self.half(at, 12) & 15,
@@ -191,7 +185,7 @@ impl<'a> UncheckedFile<'a> {
         if relocation.number >= table.info {
             return &[];
         }
-        for k in (0..relocation.number.min(table.size / SYMBOL_SIZE)).rev() {
+        for k in (0..relocation.number.min(table.symbol_count())).rev() {
             let symbol = self.symbol(table, k);
             if symbol.kind == FILE_SYMBOL {
                 return self.text(symbol.name);
@@ -200,21 +194,13 @@ impl<'a> UncheckedFile<'a> {
         &[]
     }
 
-    /// How many relocations change sections with memory.
-    pub fn relocations(&self) -> u32 {
-        let mut count: u32 = 0;
-        for k in 0..self.section_count() {
-            count = count.saturating_add(self.relocation_count(&self.section(k)));
-        }
-        count
-    }
-
-    /// The last function or label in the section of `address` at it or before it, by the first symbol table.
-    pub fn code_symbol(&self, address: u32) -> Option<RawSymbol<'a>> {
+    /// The last function or label in the section of `address` at it or before it, by the first symbol table. The time grows
+    /// with the number of symbols; `CodeSymbols` finds those of many addresses.
+    pub fn code_symbol(&self, address: u32) -> Option<RawSymbol> {
         let table = self.symbol_table()?;
         let section = self.section_at(address)?;
-        let mut last: Option<SymbolFields> = None;
-        for k in 0..table.size / SYMBOL_SIZE {
+        let mut last: Option<RawSymbol> = None;
+        for k in 0..table.symbol_count() {
             let symbol = self.symbol(&table, k);
             if symbol.section == section
                 && symbol.is_between(&last, address)
@@ -223,15 +209,11 @@ impl<'a> UncheckedFile<'a> {
                 last = Some(symbol);
             }
         }
-        let found = last?;
-        Some(RawSymbol {
-            name: self.text(found.name),
-            value: found.value,
-        })
+        last
     }
 
     /// Whether a symbol is a function, or a label that no tool makes: those are such as `.L0` and `$x`.
-    fn names_code(&self, symbol: &SymbolFields) -> bool {
+    pub(crate) fn names_code(&self, symbol: &RawSymbol) -> bool {
         match self.byte(symbol.name) {
             0 => false,
             b'.' | b'$' => symbol.kind == u32::from(STT_FUNC),
@@ -240,7 +222,7 @@ impl<'a> UncheckedFile<'a> {
     }
 
     /// The section of the first symbol table.
-    fn symbol_table(&self) -> Option<RawSection> {
+    pub fn symbol_table(&self) -> Option<RawSection> {
         for k in 0..self.section_count() {
             let section = self.section(k);
             if section.kind == SHT_SYMTAB {
@@ -297,7 +279,7 @@ impl<'a> UncheckedFile<'a> {
     }
 
     /// Relocation `index` of all those that change sections with memory.
-    pub fn relocation(&self, index: u32) -> Option<RawRelocation<'a>> {
+    pub fn relocation(&self, index: u32) -> Option<RawRelocation> {
         let mut left = index;
         for k in 0..self.section_count() {
             let section = self.section(k);
@@ -311,7 +293,7 @@ impl<'a> UncheckedFile<'a> {
     }
 
     /// How many relocations of a section change a section with memory.
-    fn relocation_count(&self, section: &RawSection) -> u32 {
+    pub fn relocation_count(&self, section: &RawSection) -> u32 {
         let changes_memory = self.section(section.info).is_allocated();
         if section.kind == SHT_RELA && !section.is_allocated() && changes_memory {
             section.size / RELOCATION_SIZE
@@ -321,24 +303,30 @@ impl<'a> UncheckedFile<'a> {
     }
 
     /// Relocation `index` of a section.
-    fn relocation_of(&self, section: &RawSection, index: u32) -> RawRelocation<'a> {
+    pub fn relocation_of(&self, section: &RawSection, index: u32) -> RawRelocation {
         let at = UncheckedFile::record(section.offset, RELOCATION_SIZE, index);
-        let symbols = self.section(section.link);
+        let table = self.section(section.link);
         let info = self.word(at, 4);
+        let number = info >> 8;
         RawRelocation {
             at: self.word(at, 0),
             kind: info & 0xff,
-            symbol: self.text(self.symbol(&symbols, info >> 8).name),
-            number: info >> 8,
-            table: symbols,
-            section: self.section_name(section.info),
+            symbol: self.symbol(&table, number),
+            number,
+            table,
+            section: section.info,
         }
     }
 }
 
 impl RawSection {
+    /// How many symbols it has, where it is a table of symbols.
+    pub(crate) fn symbol_count(&self) -> u32 {
+        self.size / SYMBOL_SIZE
+    }
+
     /// Whether it has memory when the program runs.
-    fn is_allocated(&self) -> bool {
+    pub(crate) fn is_allocated(&self) -> bool {
         self.flags & ALLOCATED != 0
     }
 
@@ -348,9 +336,9 @@ impl RawSection {
     }
 }
 
-impl SymbolFields {
+impl RawSymbol {
     /// Whether it stands at an address or before it, and not before another symbol, if there is one.
-    fn is_between(&self, other: &Option<SymbolFields>, address: u32) -> bool {
+    fn is_between(&self, other: &Option<RawSymbol>, address: u32) -> bool {
         match other {
             Some(other) => other.value <= self.value && self.value <= address,
             None => self.value <= address,
