@@ -50,10 +50,21 @@ _start:
     ecall
 1:
 #endif
+#ifdef PAIR_PARTS
+1:  auipc a4, %pcrel_hi(mixed)
+    lw    a0, %pcrel_lo(1b)(a4)
+    bnez  a0, 2f
+    li    a7, 93
+    ecall
+2:
+#endif
+#ifdef KEEP_UPPER
+    mv    a5, a4
+#endif
     j    usual_start
     .size _start, . - _start
 
-#ifdef MIX_PARTS
+#if defined(MIX_PARTS) || defined(PAIR_PARTS)
     .section .rodata.mixed, "a", @progbits
     .balign 4
     .globl mixed

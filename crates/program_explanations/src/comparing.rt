@@ -1,6 +1,6 @@
 ghost use Rattle.program_explanations.specs.Analysed.{IsAnalysed};
 
-use crate::pairing::{explain_pairing, makes_relative};
+use crate::pairing::{explain_pairing, unsure_units};
 use crate::subject::Subject;
 use board_config::Board;
 use explanation_texts::{
@@ -36,11 +36,11 @@ pub(crate) fn explain_comparison(notes: &mut Notes, subject: &Subject) -> Result
     if !differs && inputs.status != 0 {
         return Ok(());
     }
-    let is_relative = makes_relative(&subject.analysis.view, Some(&subject.analysis.graph));
-    if is_relative || inputs.goes_on {
+    let may_be_unpaired = unsure_units(subject)?.is_some();
+    if may_be_unpaired || inputs.goes_on {
         let run = run_program(subject, input)?;
         let board = &subject.board;
-        if is_relative && !does_same(inputs.alloc, inputs.file, board, input, &run)? {
+        if may_be_unpaired && !does_same(inputs.alloc, inputs.file, board, input, &run)? {
             notes.say_words(if differs { BOTH_DIFFER } else { FILE_DIFFERS });
             return explain_pairing(notes, subject);
         }

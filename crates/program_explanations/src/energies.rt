@@ -115,6 +115,7 @@ pub(crate) fn words_of(code: &Code, block: usize, units: usize) -> u32 {
     words
 }
 
-fn product(each: u32, times: u64) -> u128 {
+/// What so many accesses cost at the same price.
+pub(crate) fn product(each: u32, times: u64) -> u128 {
     u128::from(each).saturating_mul(u128::from(times))
 }

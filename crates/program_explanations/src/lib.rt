@@ -11,6 +11,7 @@ mod faults;
 mod fixing;
 mod names;
 mod origins;
+mod paired_text;
 mod pairing;
 mod pinned;
 mod refusals;

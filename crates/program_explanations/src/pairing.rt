@@ -1,8 +1,9 @@
 ghost use Rattle.program_explanations.specs.Analysed.{IsAnalysed};
 
 use crate::names::object_name;
+use crate::paired_text::is_paired_by_text;
 use crate::subject::{Inputs, Subject};
-use crate::units::PairedLow;
+use crate::units::{PairedLow, UnitTable};
 use crate::unpaired::unpaired_of_run;
 use elf_reader::{ElfView, R_RISCV_PCREL_HI20};
 use explanation_texts::{
@@ -24,7 +25,7 @@ pub fn may_be_unpaired(inputs: &Inputs) -> bool {
 
 /// Whether a file makes addresses relative to the pc, of objects that may move where these are given. Where it makes none of
 /// these, each run of its program is paired.
-pub(crate) fn makes_relative(view: &ElfView, movable: Option<&Graph>) -> bool {
+fn makes_relative(view: &ElfView, movable: Option<&Graph>) -> bool {
     for reloc in &view.relocs {
         let is_relative = reloc.kind == R_RISCV_PCREL_HI20 || is_pair_low(reloc.kind);
         if is_relative && is_site(movable, reloc.at) {
@@ -46,21 +47,38 @@ fn is_site(movable: Option<&Graph>, address: u32) -> bool {
     }
 }
 
-/// The first of the program's runs that is not paired. They are followed again.
+/// The units of a program, if a run of it may not be paired: it makes addresses relative to the pc of objects that may move, and not
+/// so that its text alone tells that each run is.
+pub(crate) fn unsure_units(subject: &Subject) -> Result<Option<UnitTable>, AllocError> {
+    let alloc = subject.inputs.alloc;
+    let analysis = &subject.analysis;
+    if !makes_relative(&analysis.view, Some(&analysis.graph)) {
+        return Ok(None);
+    }
+    let mut units = UnitTable::new(alloc, &analysis.code, &analysis.graph)?;
+    units.name_uppers(&paired_lows(alloc, &analysis.view)?);
+    if is_paired_by_text(analysis, &units) {
+        return Ok(None);
+    }
+    Ok(Some(units))
+}
+
+/// The first of the program's runs that is not paired. They are followed again, unless the program's text tells that each is.
 pub(crate) fn explain_pairing(notes: &mut Notes, subject: &Subject) -> Result<(), AllocError>
     requires { IsAnalysed subject.now }
 {
     let inputs = &subject.inputs;
-    let view = &subject.analysis.view;
-    if !inputs.tells_pairing || !makes_relative(view, Some(&subject.analysis.graph)) {
+    if !inputs.tells_pairing {
         return Ok(());
     }
-    let lows = paired_lows(inputs.alloc, view)?;
+    let Some(units) = unsure_units(subject)? else {
+        return Ok(());
+    };
     for place in 0..inputs.listed.len().max(1) {
         let Some((input, line)) = inputs.input_at(place) else {
             break;
         };
-        if let Some(unpaired) = unpaired_of_run(subject, input, &lows)? {
+        if let Some(unpaired) = unpaired_of_run(subject, input, &units)? {
             if let Some(line) = line {
                 say_line(notes, line, UNPAIRED_INPUT);
             }

@@ -1,12 +1,23 @@
+ghost use Rattle.std.specs.Prelude.{◌≡◌, length};
+ghost use Rattle.flat_machine.specs.{Known.{AreKnown}, Machine.{state_of}};
+
 use crate::choice::Chosen;
 use crate::comparing::flat_machine;
+use crate::energies::product;
 use crate::subject::Subject;
 use board_config::Prices;
 use elf_reader::Section;
-use flat_machine::Flat;
+use flat_machine::{Flat, Known};
 use object_machine::Outcome;
-use paged_store::PageStore;
+use paged_store::ByteStore;
 use std::alloc::AllocError;
+
+/// Accesses of a run.
+#[derive(Clone, Copy)]
+struct Accesses {
+    reads: u64,
+    writes: u64,
+}
 
 /// How many thousandths of the measured run's energy its reads and writes in a section would save in the scratchpad; `None`
 /// where no run was measured. The file is run as it is.
@@ -34,32 +45,53 @@ pub(crate) fn stake_in(
         Outcome::GoesOn => end.steps,
         _ => end.steps.saturating_mul(2),
     };
-    let saved = saved_in(&mut machine, &board.prices, section, most)?;
-    Ok(Some(chosen.thousandths(saved)))
+    let mut known = machine.nothing_known()?;
+    let accesses = accesses_in(&mut machine, section, most, &mut known)?;
+    Ok(Some(chosen.thousandths(accesses.saved(&board.prices))))
 }
 
-/// What the reads and writes in a section would cost less in the scratchpad, in so many steps at most.
-fn saved_in(
-    machine: &mut Flat<PageStore>,
-    prices: &Prices,
+/// How many reads and writes a machine makes in a section, in so many steps at most, over a table of the instructions that it
+/// decoded so far.
+fn accesses_in<S: ByteStore>(
+    machine: &mut Flat<S>,
     section: &Section,
     most: u64,
-) -> Result<u128, AllocError> {
-    let mut saved: u128 = 0;
+    known: &mut [Known],
+) -> Result<Accesses, AllocError>
+    requires len { length known.old ≡ 4096 }
+    requires known { let s = state_of S.byte_at machine.old in AreKnown s.map s.hart.mem known.old }
+{
+    let mut accesses = Accesses {
+        reads: 0,
+        writes: 0,
+    };
     for _ in 0..most {
         if machine.has_ended() {
             break;
         }
-        if let Some(access) = machine.step()?.access {
-            let (home, moved) = if access.write {
-                (prices.main_write, prices.spm_write)
-            } else {
-                (prices.main_read, prices.spm_read)
-            };
+        if let Some(access) = machine.step_telling(known)? {
             if access.at.wrapping_sub(section.addr) < section.size {
-                saved = saved.saturating_add(u128::from(home.saturating_sub(moved)));
+                accesses.count(access.write);
             }
         }
     }
-    Ok(saved)
+    Ok(accesses)
+}
+
+impl Accesses {
+    fn count(&mut self, write: bool) {
+        let count = if write {
+            &mut self.writes
+        } else {
+            &mut self.reads
+        };
+        *count = count.saturating_add(1);
+    }
+
+    /// What they would cost less in the scratchpad, in price units.
+    fn saved(&self, prices: &Prices) -> u128 {
+        let read = prices.main_read.saturating_sub(prices.spm_read);
+        let write = prices.main_write.saturating_sub(prices.spm_write);
+        product(read, self.reads).saturating_add(product(write, self.writes))
+    }
 }

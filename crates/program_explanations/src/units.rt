@@ -33,6 +33,12 @@ impl TracedUnit {
         }
         Some(origin)
     }
+
+    /// The AUIPC that its relocation names, where it is the low part of an address in an object that may move.
+    pub(crate) fn named_at_site(&self) -> Option<u32> {
+        self.site?;
+        self.named
+    }
 }
 
 /// The units of a program by address.

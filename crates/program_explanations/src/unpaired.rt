@@ -3,7 +3,7 @@ ghost use Rattle.program_explanations.specs.Analysed.{IsAnalysed};
 use crate::origins::Trace;
 use crate::subject::Subject;
 use crate::trail::Trail;
-use crate::units::{PairedLow, TracedUnit, UnitTable};
+use crate::units::{TracedUnit, UnitTable};
 use explanation_texts::{Origin, Unpaired, Way};
 use object_machine::Outcome;
 use rv32im::{ImmKind, Instr, RegKind};
@@ -14,15 +14,13 @@ use std::alloc::AllocError;
 pub(crate) fn unpaired_of_run(
     subject: &Subject,
     input: &[u8],
-    lows: &[PairedLow],
+    units: &UnitTable,
 ) -> Result<Option<Unpaired>, AllocError>
     requires { IsAnalysed subject.now }
 {
     let alloc = subject.inputs.alloc;
     let graph = &subject.analysis.graph;
     let mut source = subject.machine(input)?;
-    let mut units = UnitTable::new(alloc, &subject.analysis.code, graph)?;
-    units.name_uppers(lows);
     let mut trail = Trail::new(alloc, graph)?;
     for _ in 0..subject.board.steps {
         let event = source.step()?;
