@@ -1,5 +1,5 @@
 -- How a list of leaders grows.
-use Rattle.std.proofs.Common.{◌≡◌, ◌∙◌, ℕ, zero, suc, ◌+◌, ◌/◌, Bool, true, false, ◌&&◌, ◌||◌, List, length, refl, ap, arith, add-one, nat_eq}
+use Rattle.std.proofs.Common.{◌≡◌, ◌∙◌, ℕ, zero, suc, ◌+◌, ◌/◌, Bool, true, false, ◌&&◌, ◌||◌, List, length, refl, sym, ap, arith, add-one, nat_eq}
 use Rattle.std.specs.List.{dedup}
 use Rattle.std.proofs.lemmas.Bool.{eqb-true}
 use Rattle.std.specs.Cmp.{nat_eq_equiv}
@@ -28,6 +28,22 @@ more_by n m false false x y first second = grind (arith, first, second)
 -- one more place of a table
 pub place_more : (n m o c : Bool) (test : ℕ → Bool) (i : ℕ) → m ≡ o || c && any_below test i → n ≡ m || c && test i → n ≡ o || c && any_below test (i + 1)
 place_more n m o c test i first second = rw (add-one i) (more_by n m o c (any_below test i) (test i) first second)
+
+-- the words of a code range, and of a section that is none
+range_open : (n o c r any : Bool) → r ≡ true → n ≡ o || c && any → n ≡ o || c && (r && any)
+range_open n o c r any range added = rw range added
+
+range_shut : (o c r any : Bool) → r ≡ false → o ≡ o || c && (r && any)
+range_shut o c r any none = rw none (none_more o c)
+
+pub range_added : (v : PlainView) (test : ℕ → Bool) (k : ℕ) (n o c is : Bool) → is ≡ is_code_range v k → is ≡ true → n ≡ o || c && any_below (passes_at v test k) ((section_at v k).size / 4 + 1)
+    → n ≡ o || c && passes_in v test k
+range_added v test k n o c is told so added =
+    range_open n o c (is_code_range v k) (any_below (passes_at v test k) ((section_at v k).size / 4 + 1)) (sym told ∙ so) added
+
+pub no_range : (v : PlainView) (test : ℕ → Bool) (k : ℕ) (o c is : Bool) → is ≡ is_code_range v k → is ≡ false → o ≡ o || c && passes_in v test k
+no_range v test k o c is told otherwise =
+    range_shut o c (is_code_range v k) (any_below (passes_at v test k) ((section_at v k).size / 4 + 1)) (sym told ∙ otherwise)
 
 -- tests in two parts
 any_or : (t u : ℕ → Bool) (n : ℕ) → any_below (λ k. t k || u k) n ≡ any_below t n || any_below u n

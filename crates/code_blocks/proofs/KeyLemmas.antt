@@ -5,7 +5,6 @@ use Rattle.std.proofs.lemmas.Bool.{eqb-true, eq-eqb, ltb-true, cases_lt}
 use Rattle.std.proofs.lemmas.Bool.Decides.{nat_tests}
 use Rattle.std.proofs.lemmas.List.{length-map, get_or-map}
 use Rattle.std.proofs.lemmas.List.Kept.{AllPairs-from_increasing}
-use Rattle.list_checks.proofs.FirstLemmas.{holds}
 use Rattle.list_checks.specs.Tests.{any_below, lies_in}
 use Rattle.list_checks.proofs.TestLemmas.{both, same_tests, any_found, any_at}
 use Rattle.elf_reader.specs.File.{PlainSection, PlainView, plain_section, plain_symbol, plain_view}

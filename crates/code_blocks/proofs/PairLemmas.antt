@@ -2,12 +2,14 @@
 use Rattle.std.proofs.Common.{◌≡◌, ◌∙◌, ℕ, ◌+◌, ◌-◌, ◌*◌, ◌/◌, ◌%◌, ◌<◌, ◌≤◌, ◌==◌, Bool, true, false, not, ◌&&◌, ◌||◌, List, [], ◌∷◌, ◌++◌, length, take, slice_index_or, refl, sym, ap, subst, arith}
 use Rattle.std.specs.List.{list_any}
 use Rattle.std.specs.List.Sorted.{IsStrictlyIncreasing}
-use Rattle.std.proofs.lemmas.Bool.{eqb-true, eq-eqb}
+use Rattle.std.proofs.Math.Seq.{take-length}
+use Rattle.std.proofs.lemmas.Bool.{eqb-true, eq-eqb, and_left, and_right}
 use Rattle.std.proofs.lemmas.Bool.Decides.{nat_tests}
 use Rattle.std.proofs.lemmas.List.Folds.{Any-from_list_any, list_any_at, list_any-append, list_any_more}
 use Rattle.list_checks.specs.Tests.{any_below, lies_in}
 use Rattle.list_checks.proofs.TestLemmas.{both, not_true, same_tests, any_found, any_at}
-use Rattle.rv32im.specs.Fields.{opcode_of, rd_of, rs1_of, funct3_of}
+use Rattle.rv32im.specs.Fields.{opcode_of, rd_of, rs1_of, funct3_of, u_immediate, i_immediate}
+use Rattle.rv32im.specs.Words.{plus, offset}
 use Rattle.elf_reader.specs.File.{PlainView}
 use Rattle.elf_reader.specs.Loaded.{section_at}
 use Rattle.elf_reader.specs.declared.view.Reloc.{Reloc}
@@ -17,8 +19,8 @@ use Rattle.loaded_file.proofs.WordLemmas.{lies_from, lies_to}
 use Rattle.code_blocks.specs.Words.{is_jalr, is_auipc, links, pair_target, code_word, passes_at, passes_in, any_code_word}
 use Rattle.code_blocks.specs.Leaders.{is_named, is_early, calls, is_pair_of_words, is_call_by, is_call_pair, pair_goes_to, pair_comes_back, is_leader, link_comes_back, is_indirect}
 use Rattle.code_blocks.specs.Early.{has}
-use Rattle.code_blocks.specs.Pairs.{AreThose, are_code_words, may_be_pair, makes_pair, leads_to, returns_to}
-use Rattle.code_blocks.proofs.EarlyLemmas.{more_by, by_rules}
+use Rattle.code_blocks.specs.Pairs.{AreThose, is_barred, fits_pair, are_code_words, may_be_pair, makes_pair, leads_to, returns_to}
+use Rattle.code_blocks.proofs.EarlyLemmas.{none_more, more_by, by_rules}
 use Rattle.code_blocks.proofs.LeaderLemmas.{both_pass}
 use Rattle.code_blocks.proofs.SearchLemmas.{has_found, has_at}
 
@@ -107,6 +109,36 @@ pub pair_is : (v : PlainView) (p : ℕ) → may_be_pair v p && any_below (is_cal
 pair_is v p =
     reordered (are_code_words v p) (is_pair_of_words v p) (is_code_word v (pair_target v p)) (is_early v (p + 4)) (any_below (calls v (p + 4)) (length v.relocs)) (any_below (is_call_by v p) (length v.relocs))
 
+-- whether two words of code are a pair to `to`, by the words
+both_open : (a w c n e : Bool) → a ≡ true → w ≡ true → c && n && e ≡ a && w && c && n && e
+both_open a w c n e first second = rw (first, second) refl
+
+first_shut : (a w c n e : Bool) → a ≡ false → false ≡ a && w && c && n && e
+first_shut a w c n e first = rw first refl
+
+second_shut : (a w c n e : Bool) → w ≡ false → false ≡ a && w && c && n && e
+second_shut a w c n e second = sym (ap (λ b. b && c && n && e) (and_right a w second))
+
+pair_of : (v : PlainView) (at first second : ℕ) (fits told : Bool) → first ≡ image_word v at → second ≡ image_word v (at + 4) → fits ≡ fits_pair first second → fits ≡ told → is_pair_of_words v at ≡ told
+pair_of v at first second fits told here behind is tested = sym (is ∙ (λ i. fits_pair (here i) (behind i))) ∙ tested
+
+pub pair_to : (v : PlainView) (at to first second goes : ℕ) (fits result : Bool) → are_code_words v at ≡ true → first ≡ image_word v at → second ≡ image_word v (at + 4)
+    → fits ≡ fits_pair first second → fits ≡ true → goes ≡ offset (plus at (4096 * u_immediate first)) (i_immediate second) → result ≡ is_code_word v goes && not (is_barred v (at + 4)) && (goes == to)
+    → result ≡ may_be_pair v at && (pair_target v at == to)
+pair_to v at to first second goes fits result words here behind is so leads told =
+    let there : goes ≡ pair_target v at = leads ∙ (λ i. offset (plus at (4096 * u_immediate (here i))) (i_immediate (behind i))) in
+    told
+    ∙ ap (λ (a : ℕ). is_code_word v a && not (is_barred v (at + 4)) && (a == to)) there
+    ∙ both_open (are_code_words v at) (is_pair_of_words v at) (is_code_word v (pair_target v at)) (not (is_barred v (at + 4))) (pair_target v at == to) words (pair_of v at first second fits true here behind is so)
+
+pub no_pair_fits : (v : PlainView) (at to first second : ℕ) (fits : Bool) → first ≡ image_word v at → second ≡ image_word v (at + 4) → fits ≡ fits_pair first second → fits ≡ false → false ≡ may_be_pair v at && (pair_target v at == to)
+no_pair_fits v at to first second fits here behind is otherwise =
+    second_shut (are_code_words v at) (is_pair_of_words v at) (is_code_word v (pair_target v at)) (not (is_barred v (at + 4))) (pair_target v at == to) (pair_of v at first second fits false here behind is otherwise)
+
+pub no_pair_there : (v : PlainView) (at to : ℕ) → are_code_words v at ≡ false → false ≡ may_be_pair v at && (pair_target v at == to)
+no_pair_there v at to none =
+    first_shut (are_code_words v at) (is_pair_of_words v at) (is_code_word v (pair_target v at)) (not (is_barred v (at + 4))) (pair_target v at == to) none
+
 -- a relocation makes the pair where it stands
 placed : (m m' c e t t' : Bool) → (e ≡ true → m ≡ m') → (e ≡ true → t ≡ t') → m && (c && e && t) ≡ c && (m' && t') && e
 placed m m' c true t t' same goes = let one = same refl in let two = goes refl in grind (arith, one, two)
@@ -136,6 +168,32 @@ pub listed_more : (n m o c : Bool) (test : ℕ → Bool) (xs : List ℕ) (i : �
     → n ≡ o || c && list_any test (take (i + 1) xs)
 listed_more n m o c test xs i below first second =
     rw (list_any_more test xs i 0 below) (more_by n m o c (list_any test (take i xs)) (test (slice_index_or xs i 0)) first second)
+
+-- all places of a list
+pub listed_all : (n o c : Bool) (test : ℕ → Bool) (xs : List ℕ) (i : ℕ) → i ≡ length xs → n ≡ o || c && list_any test (take i xs) → n ≡ o || c && list_any test xs
+listed_all n o c test xs i all so_far =
+    so_far ∙ ap (λ (ys : List ℕ). o || c && list_any test ys) (ap (λ (j : ℕ). take j xs) all ∙ take-length xs)
+
+-- ---- what one pair adds where it comes back
+
+behind_open : (n o c w l here : Bool) → w ≡ true → l ≡ true → n ≡ o || c && here → n ≡ o || c && (w && l && here)
+behind_open n o c w l here words links is = rw (words, links) is
+
+behind_shut : (o c w l here : Bool) → w && l ≡ false → o ≡ o || c && (w && l && here)
+behind_shut o c w l here none = rw none (none_more o c)
+
+pub return_added : (v : PlainView) (a p second : ℕ) (n o linked : Bool) → are_code_words v p ≡ true → second ≡ image_word v (p + 4) → linked ≡ links second → linked ≡ true → n ≡ o || is_code_word v a && (p + 8 == a)
+    → n ≡ o || is_code_word v a && returns_to v a p
+return_added v a p second n o linked words is told so added =
+    behind_open n o (is_code_word v a) (are_code_words v p) (links (image_word v (p + 4))) (p + 8 == a) words (ap links (sym is) ∙ sym told ∙ so) added
+
+pub no_return : (v : PlainView) (a p second : ℕ) (o linked : Bool) → second ≡ image_word v (p + 4) → linked ≡ links second → linked ≡ false → o ≡ o || is_code_word v a && returns_to v a p
+no_return v a p second o linked is told otherwise =
+    behind_shut o (is_code_word v a) (are_code_words v p) (links (image_word v (p + 4))) (p + 8 == a) (and_right _ _ (ap links (sym is) ∙ sym told ∙ otherwise))
+
+pub no_words : (v : PlainView) (a p : ℕ) (o : Bool) → are_code_words v p ≡ false → o ≡ o || is_code_word v a && returns_to v a p
+no_words v a p o none =
+    behind_shut o (is_code_word v a) (are_code_words v p) (links (image_word v (p + 4))) (p + 8 == a) (and_left _ _ none)
 
 -- ---- leaders that rest on pairs
 

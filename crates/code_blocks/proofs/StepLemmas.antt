@@ -1,6 +1,7 @@
 -- A walk through the units of a block, one unit further.
 use Rattle.std.proofs.Common.{◌≡◌, ◌∙◌, ℕ, suc, ◌+◌, ◌*◌, ◌-◌, ◌<◌, ◌≤◌, Bool, true, false, not, ◌&&◌, ◌||◌, if◌then◌else◌, List, [], ◌∷◌, ◌++◌, map, length, Option, Some, None, MatchOption, refl, sym, ap, subst, arith, append-nil, append_assoc}
 use Rattle.std.specs.List.{All}
+use Rattle.std.proofs.lemmas.Bool.{cond-true, cond-false}
 use Rattle.std.proofs.lemmas.List.{map-append}
 use Rattle.std.proofs.lemmas.List.Elements.{All-nil, All-push}
 use Rattle.rv32im.specs.Table.{Means, MeansNothing}
@@ -13,7 +14,7 @@ use Rattle.code_blocks.specs.Leaders.{is_call_pair, is_leader}
 use Rattle.code_blocks.specs.Early.{has}
 use Rattle.code_blocks.specs.AllLeaders.{IsLeaders}
 use Rattle.code_blocks.specs.declared.lists.Leaders.{Leaders}
-use Rattle.code_blocks.specs.Ends.{pair_end, jal_end, jalr_end, jump_end, end_or, end_from, range_at, words_left_in, words_left}
+use Rattle.code_blocks.specs.Ends.{pair_end, jal_end, jalr_end, word_end, jump_end, end_or, end_from, range_at, words_left_in, words_left}
 use Rattle.code_blocks.specs.Blocks.{goes_on, unit_addresses, unit_at, IsUnit}
 use Rattle.code_blocks.specs.Steps.{fall_end, end_behind, IsWalk}
 use Rattle.code_blocks.specs.declared.ends.End.{End}
@@ -67,6 +68,15 @@ leaves true false false false true e l w x y z fall end is = refl
 leaves true false false false false true l w x y z fall end is = refl
 leaves true false false false false false true w x y z fall end is = refl
 leaves true false false false false false false w x y z fall end is = cc
+
+-- the end of a call pair, and that of another unit
+pub pair_ends : (v : PlainView) (a : ℕ) (e : End) → is_call_pair v a ≡ true → e ≡ pair_end v a → Some e ≡ jump_end v a
+pair_ends v a e pair is =
+    ap (λ (x : End). Some x) is ∙ sym (cond-true (is_call_pair v a) (Some (pair_end v a)) (word_end a (image_word v a)) pair)
+
+pub word_ends : (v : PlainView) (a word : ℕ) (o : Option End) → is_call_pair v a ≡ false → word ≡ image_word v a → o ≡ word_end a word → o ≡ jump_end v a
+word_ends v a word o single is ends =
+    ends ∙ ap (word_end a) is ∙ sym (cond-false (is_call_pair v a) (Some (pair_end v a)) (word_end a (image_word v a)) single)
 
 -- the end of a block that ends behind its unit at `a`, and of one that goes on
 pub end_here : (v : PlainView) (a n : ℕ) (e : End) → end_behind v a ≡ Some e → end_from v a (suc n) ≡ e

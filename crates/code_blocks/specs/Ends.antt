@@ -1,11 +1,12 @@
 -- How a block ends, found by walking through its words.
 use Rattle.std.specs.Prelude.{ℕ, zero, suc, ◌+◌, ◌-◌, ◌/◌, not, if◌then◌else◌, length, Option, Some, None}
 use Rattle.list_checks.specs.First.{unless, first_below}
-use Rattle.rv32im.specs.Fields.{rd_of}
+use Rattle.rv32im.specs.Fields.{rd_of, b_immediate, j_immediate}
+use Rattle.rv32im.specs.Words.{offset}
 use Rattle.elf_reader.specs.File.{PlainView}
 use Rattle.elf_reader.specs.Loaded.{section_at}
 use Rattle.loaded_file.specs.Code.{holds_code, image_word}
-use Rattle.code_blocks.specs.Words.{is_branch, is_jal, is_jalr, links, branch_target, jal_target, pair_target}
+use Rattle.code_blocks.specs.Words.{is_branch, is_jal, is_jalr, links, pair_target}
 use Rattle.code_blocks.specs.Meanings.{is_ebreak, has_meaning}
 use Rattle.code_blocks.specs.Leaders.{is_call_pair, is_leader}
 use Rattle.code_blocks.specs.declared.ends.End.{End}
@@ -17,24 +18,33 @@ pair_end v a =
     if links (image_word v (a + 4)) then Call (pair_target v a) (a + 8) (rd_of (image_word v (a + 4)))
     else Tail (pair_target v a)
 
--- the end of a JAL at `a`
+-- the end that a JAL makes at `a`, and a JALR that is of no pair
+abbrev pub jal_word_end : ℕ → ℕ → End
+jal_word_end a word =
+    if links word then Call (offset a (j_immediate word)) (a + 4) (rd_of word) else Jump (offset a (j_immediate word))
+
+abbrev pub jalr_word_end : ℕ → ℕ → End
+jalr_word_end a word = if links word then Indirect (Some (a + 4)) else Indirect None
+
+-- that of the JAL at `a`, and of the JALR
 abbrev pub jal_end : PlainView → ℕ → End
-jal_end v a =
-    if links (image_word v a) then Call (jal_target v a) (a + 4) (rd_of (image_word v a)) else Jump (jal_target v a)
+jal_end v a = jal_word_end a (image_word v a)
 
--- the end of a JALR at `a` that is of no pair
 abbrev pub jalr_end : PlainView → ℕ → End
-jalr_end v a = if links (image_word v a) then Indirect (Some (a + 4)) else Indirect None
+jalr_end v a = jalr_word_end a (image_word v a)
 
--- the end of a unit that ends its block, by its first word; none where the block may go on
-abbrev pub jump_end : PlainView → ℕ → Option End
-jump_end v a =
-    if is_call_pair v a then Some (pair_end v a)
-    else if is_branch (image_word v a) then Some (Branch (branch_target v a) (a + 4))
-    else if is_jal (image_word v a) then Some (jal_end v a)
-    else if is_jalr (image_word v a) then Some (jalr_end v a)
-    else if is_ebreak (image_word v a) then Some Stop
+-- the end of a unit of one word at `a` that ends its block; none where the block may go on
+abbrev pub word_end : ℕ → ℕ → Option End
+word_end a word =
+    if is_branch word then Some (Branch (offset a (b_immediate word)) (a + 4))
+    else if is_jal word then Some (jal_word_end a word)
+    else if is_jalr word then Some (jalr_word_end a word)
+    else if is_ebreak word then Some Stop
     else None
+
+-- that of any unit
+abbrev pub jump_end : PlainView → ℕ → Option End
+jump_end v a = if is_call_pair v a then Some (pair_end v a) else word_end a (image_word v a)
 
 -- the end that there is, or else another
 abbrev pub end_or : Option End → End → End

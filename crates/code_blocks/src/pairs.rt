@@ -1,5 +1,5 @@
 // Call pairs: an AUIPC and the JALR behind it that are one call (RISC-V psABI, "Procedure Calls").
-ghost use Rattle.std.specs.Prelude.{◌≡◌, ℕ, ◌+◌, ◌^◌, ◌<◌, ◌==◌, true, false, ◌&&◌, ◌||◌, length, IfOk, MatchOption, OnOk};
+ghost use Rattle.std.specs.Prelude.{◌≡◌, ℕ, ◌+◌, ◌^◌, ◌<◌, ◌==◌, true, false, not, ◌&&◌, ◌||◌, length, IfOk, MatchOption, OnOk};
 ghost use Rattle.list_checks.specs.Tests.{any_below};
 ghost use Rattle.elf_reader.specs.File.{plain_view};
 ghost use Rattle.loaded_file.specs.{Code.{holds_code, is_code_word, image_word}, Records.{is_call_kind, counts}, Read.{IsRead}};
@@ -117,14 +117,21 @@ fn is_pair_to(file: &LoadedFile, barred: &[u32], at: u32, to: u32) -> bool
     requires barred { AreThose (is_barred (plain_view file.now.view.now)) barred.now }
     ensures { result ≡ may_be_pair (plain_view file.now.view.now) at && (pair_target (plain_view file.now.view.now) at == to) }
 {
-    let Some((first, second)) = pair_words(file, at) else {
-        return false;
-    };
-    let goes_to = pair_target(at, first, second);
-    fits_pair(first, second)
-        && is_code_word(file, goes_to)
-        && !has_address(barred, at + 4)
-        && goes_to == to
+    match pair_words(file, at) {
+        Some((first, second)) => {
+            fits_pair(first, second)
+                && goes_unbarred(file, barred, at + 4, pair_target(at, first, second), to)
+        }
+        None => false,
+    }
+}
+
+/// A pair that goes to `target`, and whose JALR stands at `second`, goes to `to`, which is code, and nothing bars it.
+fn goes_unbarred(file: &LoadedFile, barred: &[u32], second: u32, target: u32, to: u32) -> bool
+    requires { AreThose (is_barred (plain_view file.now.view.now)) barred.now }
+    ensures { result ≡ is_code_word (plain_view file.now.view.now) target && not (is_barred (plain_view file.now.view.now) second) && (target == to) }
+{
+    is_code_word(file, target) && !has_address(barred, second) && target == to
 }
 
 /// `first` is an AUIPC, and `second` a JALR that uses its register, and writes that or x0.

@@ -1,9 +1,9 @@
 ghost use Rattle.std.specs.Prelude.{◌≡◌, ℕ, ◌+◌, ◌^◌, ◌<◌, true, if◌then◌else◌, MatchOption};
 ghost use Rattle.std.specs.List.Sorted.{IsStrictlyIncreasing};
-ghost use Rattle.rv32im.specs.{Words.{offset}, Fields.{rd_of, j_immediate}, Table.{Means, MeansNothing}};
+ghost use Rattle.rv32im.specs.{Fields.{rd_of}, Table.{Means, MeansNothing}};
 ghost use Rattle.elf_reader.specs.File.{plain_view};
 ghost use Rattle.loaded_file.specs.{Code.{image_word}, Read.{IsRead}};
-ghost use Rattle.code_blocks.specs.{Words.{links}, Leaders.{is_call_pair}, Early.{has}, AllLeaders.{IsLeaders}, Ends.{pair_end, jump_end}, Steps.{end_behind}};
+ghost use Rattle.code_blocks.specs.{Words.{links}, Leaders.{is_call_pair}, Early.{has}, AllLeaders.{IsLeaders}, Ends.{jal_word_end, jalr_word_end, word_end, pair_end, jump_end}, Steps.{end_behind}};
 
 use crate::ends::End;
 use crate::lists::Leaders;
@@ -77,7 +77,17 @@ fn jump_end(file: &LoadedFile, leaders: &Leaders, address: u32, word: u32) -> Op
 {
     if leaders.is_pair(address) {
         Some(pair_end(file, address, word))
-    } else if is_branch(word) {
+    } else {
+        word_end(address, word)
+    }
+}
+
+/// The end that a unit of one word at `address` makes, if it is a jump or EBREAK.
+fn word_end(address: u32, word: u32) -> Option<End>
+    requires { address + 4 < 2 ^ 32 }
+    ensures { result ≡ word_end address word }
+{
+    if is_branch(word) {
         Some(End::Branch {
             target: branch_target(address, word),
             next: address + 4,
@@ -108,7 +118,7 @@ fn pair_end(file: &LoadedFile, address: u32, word: u32) -> End
 /// The end of a JAL at `address`.
 fn jal_end(address: u32, word: u32) -> End
     requires { address + 4 < 2 ^ 32 }
-    ensures { result ≡ (if links word then End.Call (offset address (j_immediate word)) (address + 4) (rd_of word) else End.Jump (offset address (j_immediate word))) }
+    ensures { result ≡ jal_word_end address word }
 {
     let target = jal_target(address, word);
     call_or(word, target, address + 4, End::Jump { target })
@@ -132,7 +142,7 @@ fn call_or(jump: u32, target: u32, back: u32, plain: End) -> End
 /// The end of a JALR at `address` that is of no pair.
 fn jalr_end(address: u32, word: u32) -> End
     requires { address + 4 < 2 ^ 32 }
-    ensures { result ≡ (if links word then End.Indirect (Some (address + 4)) else End.Indirect None) }
+    ensures { result ≡ jalr_word_end address word }
 {
     let back = if links(word) { Some(address + 4) } else { None };
     End::Indirect { back }

@@ -1,10 +1,10 @@
 -- What one relocation gives.
 use Rattle.std.proofs.Common.{◌≡◌, ◌∙◌, ◌⊎◌, inl, inr, ℕ, zero, suc, ◌+◌, ◌<◌, ◌≤◌, ◌==◌, nat_lt, nat_le, Bool, true, false, not, ◌&&◌, ◌||◌, List, length, Option, Some, None, refl, sym, ap, subst, arith}
 use Rattle.std.specs.List.{list_any}
-use Rattle.std.proofs.lemmas.Bool.{cases_Bool, eqb-true, eq-eqb, ltb-true, leb-true, both_ways}
+use Rattle.std.proofs.lemmas.Bool.{cases_Bool, eqb-true, eq-eqb, ne_eqb, ltb-true, leb-true, both_ways}
 use Rattle.std.proofs.lemmas.Bool.Decides.{nat_tests}
 use Rattle.list_checks.specs.Tests.{any_below}
-use Rattle.list_checks.proofs.TestLemmas.{either, both, same_tests, any_found}
+use Rattle.list_checks.proofs.TestLemmas.{either, neither, both, same_tests, any_found}
 use Rattle.elf_reader.specs.File.{PlainView}
 use Rattle.elf_reader.specs.declared.view.Reloc.{Reloc}
 use Rattle.loaded_file.specs.Records.{reloc_at, counts, symbol_of}
@@ -351,3 +351,33 @@ word_found v ranges at lead i is_at kind rewritable leads d =
     let turned = ap (λ (b : Bool). b && (d.offset == lead.offset)) (equal_turned d.object lead.object) ∙ ap (λ (b : Bool). (lead.object == d.object) && b) (equal_turned d.offset lead.offset) in
     ordered_word (d.at == at) (d.object == lead.object) (d.offset == lead.offset) (nat_lt d.object (length ranges)) (leads_to v e.home e.size i) (displacement v e.home (reloc_at v i) == d.offset) (is_rewritable_word v i (reloc_at v i)) ((reloc_at v i).at == d.at)
     (equal_turned d.at at ∙ ap (λ (b : ℕ). b == d.at) is_at) (word_is v i kind rewritable) (turned ∙ leads d.object d.offset)
+
+no_word_there : (len a leads word far : Bool) → word ≡ false → false ≡ len && (a && leads && word && far)
+no_word_there len a leads word far none = grind (arith, none)
+
+pub word_missing : (v : PlainView) (ranges : List ByteRange) (i : ℕ) → is_rewritable_word v i (reloc_at v i) ≡ false → (d : DataWord) → false ≡ is_word_in v ranges d i
+word_missing v ranges i none d =
+    let e = byte_range_at ranges d.object in
+    no_word_there (nat_lt d.object (length ranges)) ((reloc_at v i).at == d.at) (leads_to v e.home e.size i) (is_rewritable_word v i (reloc_at v i)) (displacement v e.home (reloc_at v i) == d.offset) none
+
+-- none of another kind, or that isn't rewritable
+pub word_of_kind : (v : PlainView) (i : ℕ) → ((reloc_at v i).kind ≡ 1 → ⊥) → is_rewritable_word v i (reloc_at v i) ≡ false
+word_of_kind v i other = no_word ((reloc_at v i).kind == 1) _ _ _ _ (ne_eqb (reloc_at v i).kind 1 other)
+
+pub word_of_rewritable : (v : PlainView) (i : ℕ) → is_rewritable_kind v i ≡ false → is_rewritable_word v i (reloc_at v i) ≡ false
+word_of_rewritable v i none =
+    let r = reloc_at v i in
+    let word = is_rewritable_word v i r in
+    let high = is_rewritable_high v r in
+    let low = is_rewritable_low v r in
+    (neither word high (neither (word || high) low (neither (word || high || low) (is_rewritable_pair v r) none).0).0).0
+
+no_word_led : (len a leads word far : Bool) → false ≡ len && (leads && far) → false ≡ len && (a && leads && word && far)
+no_word_led true a true word far none = grind (arith, none)
+no_word_led true a false word far none = grind arith
+no_word_led false a leads word far none = refl
+
+pub word_nowhere : (v : PlainView) (ranges : List ByteRange) (i : ℕ) → ((k o : ℕ) → false ≡ leads_by v ranges k o i) → (d : DataWord) → false ≡ is_word_in v ranges d i
+word_nowhere v ranges i none d =
+    let e = byte_range_at ranges d.object in
+    no_word_led (nat_lt d.object (length ranges)) ((reloc_at v i).at == d.at) (leads_to v e.home e.size i) (is_rewritable_word v i (reloc_at v i)) (displacement v e.home (reloc_at v i) == d.offset) (none d.object d.offset)

@@ -1,5 +1,5 @@
 -- Lists of ranges and objects against the tests of a file's sections and symbols, and fixed memory in two parts.
-use Rattle.std.proofs.Common.{◌≡◌, ◌∙◌, ℕ, zero, suc, ◌+◌, ◌<◌, ◌≤◌, ◌==◌, nat_lt, Bool, true, false, not, ◌&&◌, ◌||◌, if◌then◌else◌, List, [], ◌∷◌, take, length, slice_index_or, refl, sym, ap, subst, arith, add-one}
+use Rattle.std.proofs.Common.{◌≡◌, ◌∙◌, ℕ, zero, suc, ◌+◌, ◌<◌, ◌≤◌, ◌==◌, nat_le, nat_lt, Bool, true, false, not, ◌&&◌, ◌||◌, if◌then◌else◌, List, [], ◌∷◌, take, length, slice_index_or, refl, sym, ap, subst, arith, add-one}
 use Rattle.std.specs.List.{list_any}
 use Rattle.std.proofs.Math.Seq.{take-length}
 use Rattle.std.proofs.lemmas.Bool.{eqb-true}
@@ -22,7 +22,7 @@ use Rattle.object_graph.specs.Graphs.{is_object_of, has_object, IsObjects}
 use Rattle.object_graph.specs.Sites.{in_range, no_area, in_code_range, in_object, in_symbol_table, holds_changed_byte, is_fixed_memory}
 use Rattle.object_graph.specs.declared.spans.Span.{Span}
 use Rattle.object_graph.specs.Spans.{span_of, holds, any_holds, is_left}
-use Rattle.object_graph.specs.Kinds.{is_mapped, is_changing, in_object_of_list, place_of, puts_table, puts_changed_byte}
+use Rattle.object_graph.specs.Kinds.{is_mapped, is_changing, in_object_of_list, place_of, is_put_from, puts_table, puts_changed_byte}
 
 -- a list by its places
 listed_below : {A : Type 0} (test : A → Bool) (xs : List A) (d : A) (n : ℕ) → n ≤ length xs → list_any test (take n xs) ≡ any_below (λ k. test (slice_index_or xs k d)) n
@@ -119,6 +119,17 @@ table_more v s t a k old now new here first second =
     ∙ ap (λ b. b || puts_table s t a) first
     ∙ regrouped old (has_byte s a) (nat_lt (place_of s a) 52) (any_below (in_symbol_table v (place_of s a)) k) (t.kind == 2) (inside t.offset t.size (place_of s a))
     ∙ ap (λ (u : PlainSection). old || (has_byte s a && (nat_lt (place_of s a) 52 || (any_below (in_symbol_table v (place_of s a)) k || ((u.kind == 2) && inside u.offset u.size (place_of s a)))))) (sym here))
+
+-- the ELF header, before the first section; and all sections
+below_header : (p : ℕ) → nat_le 0 p && nat_lt p (0 + 52) ≡ nat_lt p 52 || false
+below_header p = grind (arith, nat_tests)
+
+pub header_first : (v : PlainView) (s : PlainSegment) (a : ℕ) (old new here : Bool) → here ≡ is_put_from s 0 52 a → new ≡ (old || here) → new ≡ (old || puts_changed_byte v s a 0)
+header_first v s a old new here is pushed =
+    pushed ∙ ap (λ (b : Bool). old || b) (is ∙ ap (λ (b : Bool). has_byte s a && b) (below_header (place_of s a)))
+
+pub tables_all : (v : PlainView) (s : PlainSegment) (a k : ℕ) (old new : Bool) → k ≡ length v.sections → new ≡ (old || puts_changed_byte v s a k) → new ≡ (old || puts_changed_byte v s a (length v.sections))
+tables_all v s a k old new all so_far = so_far ∙ ap (λ (n : ℕ). old || puts_changed_byte v s a n) all
 
 -- main, and then the areas
 pub mapped_held : (board : Board) (a : ℕ) (none : List Span) (s : Span) (areas : List Range) (one all : Bool) → none ≡ [] → one ≡ (any_holds none a || holds a s) → s ≡ span_of board.main → areas ≡ board.areas.items → all ≡ (one || list_any (λ r. in_range r a) areas) → all ≡ is_mapped board a

@@ -16,6 +16,7 @@ pub mod ViewLemmas
 pub mod LeadLemmas
 pub mod MovableLemmas
 pub mod RewritableLemmas
+pub mod KindTests
 pub mod SiteLemmas
 pub mod SortLemmas
 pub mod SearchLemmas

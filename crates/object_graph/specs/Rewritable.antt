@@ -32,6 +32,10 @@ holds_data v at k =
     && not (is_executable (section_at v k))
     && lies_in (section_at v k).addr (section_at v k).size at 4
 
+-- they lie in such a section, and hold the target
+abbrev pub holds_target : PlainView → Reloc → Bool
+holds_target v r = any_below (holds_data v r.at) (length v.sections) && (image_word v r.at == target v r)
+
 -- they lie partly in the range of symbol `k`
 abbrev pub cuts_range : PlainView → ℕ → ℕ → Bool
 cuts_range v at k =
@@ -150,13 +154,15 @@ is_rewritable_pair v r =
     && (u_high (image_word v r.at) == upper_half (distance v r))
     && not (any_below (is_unpaired v r) (length v.relocs))
 
--- relocation `i` is of a rewritable kind
-abbrev pub is_rewritable_kind : PlainView → ℕ → Bool
-is_rewritable_kind v i =
+-- relocation `i` is of a rewritable kind, which makes an address by itself; which may be one of a pair
+abbrev pub is_rewritable_absolute : PlainView → ℕ → Bool
+is_rewritable_absolute v i =
     is_rewritable_word v i (reloc_at v i)
     || is_rewritable_high v (reloc_at v i)
     || is_rewritable_low v (reloc_at v i)
-    || is_rewritable_pair v (reloc_at v i)
+
+abbrev pub is_rewritable_kind : PlainView → ℕ → Bool
+is_rewritable_kind v i = is_rewritable_absolute v i || is_rewritable_pair v (reloc_at v i)
 
 -- relocation `i`, which means the object of `n` bytes at `home`, is rewritable: it changes nothing, or it leads
 -- into the object or to its end, by a rewritable kind

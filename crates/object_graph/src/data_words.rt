@@ -54,12 +54,12 @@ fn word_of(
     if !is_rewritable(file.view, rewritable, i) {
         return None;
     }
-    let Some(lead) = lead_of(file, ranges, i) else {
-        return None;
-    };
-    Some(DataWord {
-        at: reloc.at,
-        object: lead.object,
-        offset: lead.offset,
-    })
+    match lead_of(file, ranges, i) {
+        Some(lead) => Some(DataWord {
+            at: reloc.at,
+            object: lead.object,
+            offset: lead.offset,
+        }),
+        None => None,
+    }
 }

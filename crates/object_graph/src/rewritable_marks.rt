@@ -1,13 +1,13 @@
-ghost use Rattle.std.specs.Prelude.{◌≡◌, ◌<◌, length, IfOk};
+ghost use Rattle.std.specs.Prelude.{◌≡◌, ◌<◌, ◌||◌, length, IfOk};
 ghost use Rattle.elf_reader.specs.File.{plain_view};
 ghost use Rattle.loaded_file.specs.Read.{IsRead};
-ghost use Rattle.object_graph.specs.{Rewritable.{is_rewritable_kind}, Marks.{all_rewritable}, Lists.{AreListsOf}};
+ghost use Rattle.object_graph.specs.{Rewritable.{is_rewritable_high, is_rewritable_low, is_rewritable_absolute, is_rewritable_kind}, Marks.{all_rewritable}, Lists.{AreListsOf}};
 
 use crate::listing::relocation_lists;
 use crate::lists::RelocationLists;
 use crate::pairs::{is_rewritable_high, is_rewritable_low, is_rewritable_pair};
 use crate::rewritable_words::is_rewritable_word;
-use elf_reader::ElfView;
+use elf_reader::{ElfView, Reloc};
 use loaded_file::LoadedFile;
 use std::alloc::{AllocError, Global};
 
@@ -45,9 +45,24 @@ fn is_rewritable_kind(file: &LoadedFile, lists: &RelocationLists, i: usize) -> b
     requires below { i < length file.now.view.now.relocs.items }
     ensures { result ≡ is_rewritable_kind (plain_view file.now.view.now) i }
 {
+    is_rewritable_absolute(file, lists, i) || is_rewritable_pair(file, lists, i)
+}
+
+/// It is of one that makes an address by itself.
+fn is_rewritable_absolute(file: &LoadedFile, lists: &RelocationLists, i: usize) -> bool
+    requires read { IsRead file.now.view.now }
+    requires lists { AreListsOf (plain_view file.now.view.now) lists.now }
+    requires below { i < length file.now.view.now.relocs.items }
+    ensures { result ≡ is_rewritable_absolute (plain_view file.now.view.now) i }
+{
     let reloc = &file.view.relocs[i];
-    is_rewritable_word(file, lists, i)
-        || is_rewritable_high(file, reloc)
-        || is_rewritable_low(file, reloc)
-        || is_rewritable_pair(file, lists, i)
+    is_rewritable_word(file, lists, i) || is_rewritable_half(file, reloc)
+}
+
+/// A relocation is of the upper or of the lower part of its target.
+fn is_rewritable_half(file: &LoadedFile, reloc: &Reloc) -> bool
+    requires { IsRead file.now.view.now }
+    ensures { result ≡ is_rewritable_high (plain_view file.now.view.now) reloc.now || is_rewritable_low (plain_view file.now.view.now) reloc.now }
+{
+    is_rewritable_high(file, reloc) || is_rewritable_low(file, reloc)
 }

@@ -1,8 +1,8 @@
 ghost use Rattle.std.specs.Prelude.{◌≡◌, ◌<◌, ◌==◌, not, ◌&&◌, if◌then◌else◌, length};
 ghost use Rattle.list_checks.specs.Tests.{any_below};
 ghost use Rattle.elf_reader.specs.File.{plain_view};
-ghost use Rattle.loaded_file.specs.{Code.{image_word}, Records.{reloc_at, target}, Read.{IsRead}};
-ghost use Rattle.object_graph.specs.{Rewritable.{holds_data, cuts_range, changes_word, is_rewritable_word}, Lists.{is_changing, AreListsOf}};
+ghost use Rattle.loaded_file.specs.{Records.{reloc_at}, Read.{IsRead}};
+ghost use Rattle.object_graph.specs.{Rewritable.{holds_target, cuts_range, changes_word, is_rewritable_word}, Lists.{is_changing, AreListsOf}};
 
 use crate::listing::{change_start, is_changing};
 use crate::lists::RelocationLists;
@@ -19,13 +19,21 @@ pub(crate) fn is_rewritable_word(file: &LoadedFile, lists: &RelocationLists, i: 
     ensures { result ≡ is_rewritable_word (plain_view file.now.view.now) i (reloc_at (plain_view file.now.view.now) i) }
 {
     let reloc = &file.view.relocs[i];
-    reloc.kind == R_RISCV_32 && holds_target(file, reloc) && stands_alone(file, lists, i)
+    is_held(file, reloc) && stands_alone(file, lists, i)
+}
+
+/// A relocation is of a word of data that holds its target.
+fn is_held(file: &LoadedFile, reloc: &Reloc) -> bool
+    requires read { IsRead file.now.view.now }
+    ensures { result ≡ (reloc.now.kind == 1) && holds_target (plain_view file.now.view.now) reloc.now }
+{
+    reloc.kind == R_RISCV_32 && holds_target(file, reloc)
 }
 
 /// The word of data that a relocation changes holds its target.
 fn holds_target(file: &LoadedFile, reloc: &Reloc) -> bool
     requires read { IsRead file.now.view.now }
-    ensures { result ≡ any_below (holds_data (plain_view file.now.view.now) reloc.now.at) (length (plain_view file.now.view.now).sections) && (image_word (plain_view file.now.view.now) reloc.now.at == target (plain_view file.now.view.now) reloc.now) }
+    ensures { result ≡ holds_target (plain_view file.now.view.now) reloc.now }
 {
     match data_word(file, reloc.at) {
         Some(word) => word == target(file.view, reloc),

@@ -3,12 +3,12 @@ ghost use Rattle.elf_reader.specs.File.{plain_view};
 ghost use Rattle.loaded_file.specs.Records.{reloc_at};
 ghost use Rattle.object_graph.specs.{Marks.{all_rewritable}, Rewritable.{displacement, is_meant, is_rewritable_pair}, Fixed.{is_unrewritable_by, is_unrewritable}, Disjoint.{AreApart, IsBelow, Finds, AddsRule}, Meant.{is_direct, is_site_kind, leads_inside}};
 
-use crate::kinds::is_hint;
+use crate::listing::is_changing;
 use crate::meaning::place_meant;
 use crate::range_marks::mark;
 use crate::rewritable_marks::is_rewritable;
 use elf_reader::{ElfView, R_RISCV_PCREL_HI20, Reloc};
-use loaded_file::{ByteRange, LoadedFile, counts, target};
+use loaded_file::{ByteRange, LoadedFile, target};
 
 /// Marks the ranges that a relocation means that isn't rewritable.
 pub(crate) fn mark_unrewritable(
@@ -42,7 +42,7 @@ fn unrewritable_place(
     ensures below { IsBelow (length ranges.now) result }
 {
     let reloc = &file.view.relocs[i];
-    if counts(file, reloc) && !is_hint(reloc.kind) {
+    if is_changing(file, i) {
         misled_place(file, ranges, reloc, is_rewritable(file.view, rewritable, i))
     } else {
         None

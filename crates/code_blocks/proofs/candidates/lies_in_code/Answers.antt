@@ -3,7 +3,6 @@ use Rattle.std.proofs.lemmas.List.{get_or-map}
 use Rattle.list_checks.specs.Tests.{any_below}
 use Rattle.list_checks.proofs.TestLemmas.{any_at}
 use Rattle.elf_reader.specs.File.{PlainSymbol, plain_symbol, plain_view}
-use Rattle.elf_reader.specs.declared.view.Symbol.{Symbol}
 use Rattle.loaded_file.specs.Records.{no_symbol, symbol_at}
 use Rattle.loaded_file.specs.Reaches.{holds_range}
 use Rattle.loaded_file.specs.declared.reaches.SectionKind.TheVariants.{Code}
