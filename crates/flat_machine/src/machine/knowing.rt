@@ -45,7 +45,9 @@ impl<S: ByteStore> Flat<S> {
     }
 
     /// Takes steps as long as each is near, at most `n`. Tells how many of them are left.
-    // So nothing in its loop fails or ends the machine.
+    // So nothing in its loop fails or ends the machine. A call of its own, so that the host's registers are left to the loop
+    // for the pc and the steps that are left.
+    #[inline(never)]
     fn run_near<const SLOTS: usize>(&mut self, n: u64, known: &mut [Known]) -> u64
         requires n { 0 < n }
         requires some { 0 < SLOTS }
