@@ -1,5 +1,5 @@
 -- The state that a machine of the code stands for.
-use Rattle.std.specs.Prelude.{drop, slice_index}
+use Rattle.std.specs.Prelude.{ℕ, drop, slice_index}
 use Rattle.rv32im.specs.Memory.{Memory}
 use Rattle.flat_machine.specs.declared.machine.Flat.{Flat}
 use Rattle.flat_machine.specs.State.{State}
@@ -18,3 +18,9 @@ state_of byte_at machine =
       output = machine.output.items;
       outcome = machine.outcome;
     }
+
+-- the same at another pc
+abbrev pub state_at : {S : Type 0} → (S → Memory) → Flat S → ℕ → State
+state_at byte_at machine pc =
+    let s = state_of byte_at machine in
+    record s { hart = record s.hart { pc = pc } }

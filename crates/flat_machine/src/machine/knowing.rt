@@ -11,7 +11,7 @@ use std::alloc::AllocError;
 // took two fifths more time where a copy had two.
 impl<S: ByteStore> Flat<S> {
     ghost use Rattle.std.specs.Prelude.{◌≡◌, ℕ, ◌-◌, ◌<◌, ◌≤◌, length, MatchBool, IfOk, OnOk, OnErr};
-    ghost use Rattle.flat_machine.specs.{declared.events.FlatOutcome.{FlatOutcome}, Runs.{HasEnded, Steps}, Known.{AreKnown, TakesStep, TellsStep}, Machine.{state_of}};
+    ghost use Rattle.flat_machine.specs.{declared.events.FlatOutcome.{FlatOutcome}, Runs.{HasEnded, Steps}, Known.{AreKnown, TakesStep, TellsStep}, Machine.{state_of, state_at}};
 
     /// Takes `n` steps, or fewer where the machine ends, over a table of so many slots.
     pub(super) fn run_knowing<const SLOTS: usize>(
@@ -60,12 +60,15 @@ impl<S: ByteStore> Flat<S> {
         ensures known { let t = state_of S.byte_at self.new in AreKnown t.map t.hart.mem known.new }
     {
         let mut left = n;
-        while self.step_near::<SLOTS>(known) {
+        let mut pc = self.pc;
+        while self.step_near::<SLOTS>(&mut pc, known) {
             left -= 1;
             if left == 0 {
-                break;
+                self.pc = pc;
+                return left;
             }
         }
+        self.pc = pc;
         left
     }
 
@@ -110,7 +113,7 @@ impl<S: ByteStore> Flat<S> {
         if is_known::<4096>(known, self.pc) {
             let op = kept_at::<4096>(known, self.pc);
             let access = self.access_of_op(op);
-            if self.perform_near::<4096>(op, known) {
+            if self.perform_here::<4096>(op, known) {
                 return Ok(access);
             }
         }
@@ -119,21 +122,21 @@ impl<S: ByteStore> Flat<S> {
 
     /// Takes one step, if the table has its instruction and its access is near the last ones. Tells whether it did.
     #[inline(always)]
-    fn step_near<const SLOTS: usize>(&mut self, known: &mut [Known]) -> bool
+    fn step_near<const SLOTS: usize>(&mut self, pc: &mut u32, known: &mut [Known]) -> bool
         requires some { 0 < SLOTS }
         requires len { length known.old ≡ SLOTS }
         requires known { let s = state_of S.byte_at self.old in AreKnown s.map s.hart.mem known.old }
         requires going { (state_of S.byte_at self.old).outcome ≡ FlatOutcome.GoesOn }
         ensures step { MatchBool result
-            (TakesStep (state_of S.byte_at self.old) (state_of S.byte_at self.new))
-            (state_of S.byte_at self.new ≡ state_of S.byte_at self.old) }
+            (TakesStep (state_at S.byte_at self.old pc.old) (state_at S.byte_at self.new pc.new))
+            (state_at S.byte_at self.new pc.new ≡ state_at S.byte_at self.old pc.old) }
         ensures going { (state_of S.byte_at self.new).outcome ≡ FlatOutcome.GoesOn }
         ensures known { let t = state_of S.byte_at self.new in AreKnown t.map t.hart.mem known.new }
     {
-        if !is_known::<SLOTS>(known, self.pc) {
+        if !is_known::<SLOTS>(known, *pc) {
             return false;
         }
-        let op = kept_at::<SLOTS>(known, self.pc);
-        self.perform_near::<SLOTS>(op, known)
+        let op = kept_at::<SLOTS>(known, *pc);
+        self.perform_near::<SLOTS>(pc, op, known)
     }
 }

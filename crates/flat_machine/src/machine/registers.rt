@@ -4,7 +4,7 @@ use paged_store::ByteStore;
 impl<S: ByteStore> Flat<S> {
     ghost use Rattle.std.specs.Prelude.{◌≡◌, ◌<◌};
     ghost use Rattle.rv32im.specs.Acts.{register, with_register, after_write, after_jump};
-    ghost use Rattle.flat_machine.specs.Machine.{state_of};
+    ghost use Rattle.flat_machine.specs.Machine.{state_of, state_at};
 
     // These are inlined: each step goes through them, and they have several callers.
 
@@ -50,5 +50,27 @@ impl<S: ByteStore> Flat<S> {
     {
         self.set_register(rd, self.pc.wrapping_add(4));
         self.pc = target;
+    }
+
+    /// The same where the pc is beside the machine.
+    #[inline(always)]
+    pub(super) fn write_near(&mut self, pc: &mut u32, rd: u8, value: u32)
+        requires { rd < 32 }
+        ensures { let s = state_at S.byte_at self.old pc.old in
+            state_at S.byte_at self.new pc.new ≡ record s { hart = after_write s.hart rd value } }
+    {
+        self.set_register(rd, value);
+        *pc = pc.wrapping_add(4);
+    }
+
+    /// The same where the pc is beside the machine.
+    #[inline(always)]
+    pub(super) fn jump_near(&mut self, pc: &mut u32, rd: u8, target: u32)
+        requires { rd < 32 }
+        ensures { let s = state_at S.byte_at self.old pc.old in
+            state_at S.byte_at self.new pc.new ≡ record s { hart = after_jump s.hart rd target } }
+    {
+        self.set_register(rd, pc.wrapping_add(4));
+        *pc = target;
     }
 }
