@@ -163,7 +163,7 @@ impl<S: ByteStore> Flat<S> {
 
     /// LUI.
     #[inline(always)]
-    fn lui_near(&mut self, pc: &mut u32, rd: u8, imm: u32)
+    pub(super) fn lui_near(&mut self, pc: &mut u32, rd: u8, imm: u32)
         requires rd { rd < 32 }
         requires imm { imm < 1048576 }
         ensures { state_at S.byte_at self.new pc.new ≡ performed (state_at S.byte_at self.old pc.old) (Instr.Lui rd imm) }
@@ -173,7 +173,7 @@ impl<S: ByteStore> Flat<S> {
 
     /// AUIPC.
     #[inline(always)]
-    fn auipc_near(&mut self, pc: &mut u32, rd: u8, imm: u32)
+    pub(super) fn auipc_near(&mut self, pc: &mut u32, rd: u8, imm: u32)
         requires rd { rd < 32 }
         requires imm { imm < 1048576 }
         ensures { state_at S.byte_at self.new pc.new ≡ performed (state_at S.byte_at self.old pc.old) (Instr.Auipc rd imm) }
@@ -184,7 +184,7 @@ impl<S: ByteStore> Flat<S> {
 
     /// JAL.
     #[inline(always)]
-    fn jal_near(&mut self, pc: &mut u32, rd: u8, off: i32)
+    pub(super) fn jal_near(&mut self, pc: &mut u32, rd: u8, off: i32)
         requires { rd < 32 }
         ensures { state_at S.byte_at self.new pc.new ≡ performed (state_at S.byte_at self.old pc.old) (Instr.Jal rd off) }
     {
@@ -194,7 +194,7 @@ impl<S: ByteStore> Flat<S> {
 
     /// JALR: the target is taken before the return address is written.
     #[inline(always)]
-    fn jalr_near(&mut self, pc: &mut u32, rd: u8, rs1: u8, imm: i32)
+    pub(super) fn jalr_near(&mut self, pc: &mut u32, rd: u8, rs1: u8, imm: i32)
         requires rd { rd < 32 }
         requires rs1 { rs1 < 32 }
         ensures { state_at S.byte_at self.new pc.new ≡ performed (state_at S.byte_at self.old pc.old) (Instr.Jalr rd rs1 imm) }
@@ -205,7 +205,7 @@ impl<S: ByteStore> Flat<S> {
 
     /// An operation on a register and an immediate.
     #[inline(always)]
-    fn op_imm_near(&mut self, pc: &mut u32, kind: ImmKind, rd: u8, rs1: u8, imm: i32)
+    pub(super) fn op_imm_near(&mut self, pc: &mut u32, kind: ImmKind, rd: u8, rs1: u8, imm: i32)
         requires rd { rd < 32 }
         requires rs1 { rs1 < 32 }
         ensures { state_at S.byte_at self.new pc.new ≡ performed (state_at S.byte_at self.old pc.old) (Instr.OpImm kind rd rs1 imm) }
@@ -216,7 +216,7 @@ impl<S: ByteStore> Flat<S> {
 
     /// An operation on two registers.
     #[inline(always)]
-    fn op_reg_near(&mut self, pc: &mut u32, kind: RegKind, rd: u8, rs1: u8, rs2: u8)
+    pub(super) fn op_reg_near(&mut self, pc: &mut u32, kind: RegKind, rd: u8, rs1: u8, rs2: u8)
         requires rd { rd < 32 }
         requires rs1 { rs1 < 32 }
         requires rs2 { rs2 < 32 }

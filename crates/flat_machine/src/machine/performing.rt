@@ -3,9 +3,7 @@ use crate::events::{FlatAccess, FlatOutcome};
 use crate::machine::Flat;
 use crate::mapping::has_access;
 use paged_store::ByteStore;
-use rv32im::{
-    BranchKind, ImmKind, Instr, LoadKind, RegKind, StoreKind, imm_result, reg_result, takes,
-};
+use rv32im::{BranchKind, ImmKind, Instr, LoadKind, RegKind, StoreKind, takes};
 use std::alloc::AllocError;
 
 impl<S: ByteStore> Flat<S> {
@@ -78,7 +76,9 @@ impl<S: ByteStore> Flat<S> {
         requires imm { imm < 1048576 }
         ensures { state_of S.byte_at self.new ≡ performed (state_of S.byte_at self.old) (Instr.Lui rd imm) }
     {
-        self.write(rd, imm << 12);
+        let mut pc = self.pc;
+        self.lui_near(&mut pc, rd, imm);
+        self.pc = pc;
     }
 
     /// AUIPC.
@@ -88,7 +88,9 @@ impl<S: ByteStore> Flat<S> {
         requires imm { imm < 1048576 }
         ensures { state_of S.byte_at self.new ≡ performed (state_of S.byte_at self.old) (Instr.Auipc rd imm) }
     {
-        self.write(rd, self.pc.wrapping_add(imm << 12));
+        let mut pc = self.pc;
+        self.auipc_near(&mut pc, rd, imm);
+        self.pc = pc;
     }
 
     /// JAL.
@@ -97,18 +99,21 @@ impl<S: ByteStore> Flat<S> {
         requires { rd < 32 }
         ensures { state_of S.byte_at self.new ≡ performed (state_of S.byte_at self.old) (Instr.Jal rd off) }
     {
-        self.jump(rd, self.pc.wrapping_add_signed(off));
+        let mut pc = self.pc;
+        self.jal_near(&mut pc, rd, off);
+        self.pc = pc;
     }
 
-    /// JALR: the target is taken before the return address is written.
+    /// JALR.
     #[inline(always)]
     pub(super) fn jalr(&mut self, rd: u8, rs1: u8, imm: i32)
         requires rd { rd < 32 }
         requires rs1 { rs1 < 32 }
         ensures { state_of S.byte_at self.new ≡ performed (state_of S.byte_at self.old) (Instr.Jalr rd rs1 imm) }
     {
-        let target = self.register(rs1).wrapping_add_signed(imm) & !1;
-        self.jump(rd, target);
+        let mut pc = self.pc;
+        self.jalr_near(&mut pc, rd, rs1, imm);
+        self.pc = pc;
     }
 
     /// A conditional branch.
@@ -129,8 +134,9 @@ impl<S: ByteStore> Flat<S> {
         requires rs1 { rs1 < 32 }
         ensures { state_of S.byte_at self.new ≡ performed (state_of S.byte_at self.old) (Instr.OpImm kind rd rs1 imm) }
     {
-        let value = imm_result(kind, self.register(rs1), imm);
-        self.write(rd, value);
+        let mut pc = self.pc;
+        self.op_imm_near(&mut pc, kind, rd, rs1, imm);
+        self.pc = pc;
     }
 
     /// An operation on two registers.
@@ -141,8 +147,9 @@ impl<S: ByteStore> Flat<S> {
         requires rs2 { rs2 < 32 }
         ensures { state_of S.byte_at self.new ≡ performed (state_of S.byte_at self.old) (Instr.OpReg kind rd rs1 rs2) }
     {
-        let value = reg_result(kind, self.register(rs1), self.register(rs2));
-        self.write(rd, value);
+        let mut pc = self.pc;
+        self.op_reg_near(&mut pc, kind, rd, rs1, rs2);
+        self.pc = pc;
     }
 
     /// A load. Tells of the access.

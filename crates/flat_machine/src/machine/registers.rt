@@ -37,19 +37,9 @@ impl<S: ByteStore> Flat<S> {
         ensures { let s = state_of S.byte_at self.old in
             state_of S.byte_at self.new ≡ record s { hart = after_write s.hart rd value } }
     {
-        self.set_register(rd, value);
-        self.pc = self.pc.wrapping_add(4);
-    }
-
-    /// Jumps, and leaves the return address in a register.
-    #[inline(always)]
-    pub(super) fn jump(&mut self, rd: u8, target: u32)
-        requires { rd < 32 }
-        ensures { let s = state_of S.byte_at self.old in
-            state_of S.byte_at self.new ≡ record s { hart = after_jump s.hart rd target } }
-    {
-        self.set_register(rd, self.pc.wrapping_add(4));
-        self.pc = target;
+        let mut pc = self.pc;
+        self.write_near(&mut pc, rd, value);
+        self.pc = pc;
     }
 
     /// The same where the pc is beside the machine.
@@ -63,7 +53,7 @@ impl<S: ByteStore> Flat<S> {
         *pc = pc.wrapping_add(4);
     }
 
-    /// The same where the pc is beside the machine.
+    /// Jumps, and leaves the return address in a register. The pc is beside the machine.
     #[inline(always)]
     pub(super) fn jump_near(&mut self, pc: &mut u32, rd: u8, target: u32)
         requires { rd < 32 }
