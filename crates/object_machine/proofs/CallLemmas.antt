@@ -1,5 +1,5 @@
 -- Bytes that calls move.
-use Rattle.std.proofs.Common.{◌≡◌, ◌⊎◌, inl, inr, ℕ, zero, suc, ◌+◌, ◌<◌, ◌≤◌, ◌==◌, nat_lt, Bool, true, false, if◌then◌else◌, List, [], ◌∷◌, take, drop, length, length-take, length-drop, Option, Some, None, refl, ◌∙◌, ap, subst, arith}
+use Rattle.std.proofs.Common.{◌≡◌, ◌⊎◌, inl, inr, ℕ, zero, suc, ◌+◌, ◌<◌, ◌≤◌, ◌==◌, nat_lt, Bool, true, false, if◌then◌else◌, List, [], ◌∷◌, ◌++◌, take, drop, length, length-take, length-drop, Option, Some, None, refl, ◌∙◌, ap, sym, subst, arith}
 use Rattle.std.proofs.lemmas.Bool.{cases_eq}
 use Rattle.std.specs.List.{All, list_any}
 use Rattle.std.proofs.lemmas.Bool.Decides.{nat_tests}
@@ -49,6 +49,19 @@ plain_none p s n i bytes below so_far none =
     none_stays p s n i below
     (ap (λ (o : Option (List ℕ)). and_byte o (cell_at s (byte_place p (a1 s) i) 0)) so_far
     ∙ and_none bytes (cell_at s (byte_place p (a1 s) i) 0) none)
+
+and_some : (bytes : List ℕ) (c : Cell) (b : ℕ) → plain_of c ≡ Some b → and_byte (Some bytes) c ≡ Some (bytes ++ b ∷ [])
+and_some bytes (Byte d) b some = cc
+and_some bytes (Part hi o d k) b some = cc
+and_some bytes Mist b some = cc
+
+pub plain_some : (p : Program) (s : SourceState) (i b : ℕ) (bytes more : List ℕ) → plain_bytes p s i ≡ Some bytes → plain_of (cell_at s (byte_place p (a1 s) i) 0) ≡ Some b → more ≡ bytes ++ b ∷ [] → plain_bytes p s (i + 1) ≡ Some more
+plain_some p s i b bytes more so_far some is =
+    let next : i + 1 ≡ suc i = omega arith in
+    ap (plain_bytes p s) next
+    ∙ ap (λ (o : Option (List ℕ)). and_byte o (cell_at s (byte_place p (a1 s) i) 0)) so_far
+    ∙ and_some bytes (cell_at s (byte_place p (a1 s) i) 0) b some
+    ∙ ap (λ (xs : List ℕ). Some xs) (sym is)
 
 -- ---- bytes of the input
 
