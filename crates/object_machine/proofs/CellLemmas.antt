@@ -34,6 +34,21 @@ none_half extend (Byte x) Mist is = refl
 none_half extend (Part hi o d k) b is = refl
 none_half extend Mist b is = refl
 
+-- ---- bytes that a place spans lie below 2 ^ 32
+
+pub fixed_fits : (t : Tables) (a n : ℕ) → Spans t (suc n) (Fixed a) → a + suc n ≤ 4294967296
+fixed_fits t a n spans = let last = (spans n (omega arith)).0 in omega (arith, last)
+
+pub object_below : (t : Tables) (o d n : ℕ) → Spans t (suc n) (Object o d) → o < length t.graph.objects.items
+object_below t o d n spans = (spans n (omega arith)).0
+
+pub object_fits : (t : Tables) (o d h n : ℕ) → h ≡ home t o → Spans t (suc n) (Object o d) → h + d + suc n ≤ 4294967296
+object_fits t o d h n is spans =
+    let last = spans n (omega arith) in
+    let inside : d + n < size t o = last.1 in
+    let end : home t o + size t o < 4294967296 = t.below o in
+    omega (arith, is, inside, end)
+
 -- ---- what stands at a place
 
 there : (is : Bool) (c : Cell) → is ≡ true → c ≡ where_memory is c
