@@ -24,7 +24,7 @@ loop-k-preserved c =
       marked = λ b.
           let before = list_any (enters_copy code b) (take c.loop-k.k copies) in
           let was : slice_index_or c.deref_mut.result.now b false ≡ before =
-              ap (λ (xs : List Bool). slice_index_or xs b false) c.deref_mut.ensures.value ∙ c.loop-k.invariant.marked b in
+          ap (λ (xs : List Bool). slice_index_or xs b false) c.deref_mut.ensures.value ∙ c.loop-k.invariant.marked b in
           ap (λ (xs : List Bool). slice_index_or xs b false) same
           ∙ c.enter_copy.ensures.marked b
           ∙ ap (λ (x : Bool). x || enters_copy code b copy) was
