@@ -1,3 +1,4 @@
+use crate::columns::Column;
 use crate::guiding::{DualSolution, Guide, NodeBound};
 use crate::lagrangian::{BoundStatus, LagrangianDual};
 use crate::layout::Layout;
@@ -43,24 +44,21 @@ fn unscaled(side: &Side, layout: &Layout, value: u64) -> u128 {
 
 /// The multipliers of the packing rows: what each adds to the reach.
 fn add_steps(multipliers: &mut [u64], layout: &Layout, dual_problem: &LagrangianDual) {
+    let (relaxation, live) = (&dual_problem.relaxation, &dual_problem.live);
+    let mut before = relaxation.held_before(layout, live, 0);
     for row in 0..layout.rows.numbers.len() {
+        let behind = relaxation.held_before(layout, live, row.saturating_add(1));
         if !is_set(&layout.rows.is_knapsack, row) {
-            let step = dual_problem
-                .relaxation
-                .step(layout, &dual_problem.live, row);
-            put(multipliers, row, step);
+            put(multipliers, row, behind.saturating_sub(before));
         }
+        before = behind;
     }
 }
 
 /// A packing row without slack pays for a free variable that it bars.
-fn bar(multipliers: &mut [u64], node: &Node, packing: &[u32], gain: u64) {
-    for row in packing {
-        let place = *row as usize;
-        if is_set(&node.full, place) {
-            put(multipliers, place, number_at(multipliers, place).max(gain));
-            return;
-        }
+fn bar(multipliers: &mut [u64], node: &Node, column: &Column, gain: u64) {
+    if let Some(row) = node.full_row(column) {
+        put(multipliers, row, number_at(multipliers, row).max(gain));
     }
 }
 
@@ -71,7 +69,7 @@ fn bar_all(multipliers: &mut [u64], layout: &Layout, dual_problem: &LagrangianDu
             bar(
                 multipliers,
                 &dual_problem.node,
-                &column.packing,
+                column,
                 column.reduced_gain(&dual_problem.multipliers),
             );
         }

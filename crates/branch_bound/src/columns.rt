@@ -23,6 +23,22 @@ pub(crate) struct Column {
     pub knapsack: Vec<(u32, u64)>,
     /// Its packing rows.
     pub packing: Vec<u32>,
+    /// From the first to the last of them, where it has any and all rows between are among them.
+    pub run: Option<Span>,
+}
+
+/// The rows from the first to the last of some packing rows, None where there is none or others lie between.
+fn run_of(packing: &[u32]) -> Option<Span> {
+    match (packing.first(), packing.last()) {
+        (Some(first), Some(last))
+            if packing.len() == (last.saturating_sub(*first) as usize).saturating_add(1) => {
+            Some(Span {
+                first: *first as usize,
+                last: *last as usize,
+            })
+        }
+        _ => None,
+    }
 }
 
 impl Column {
@@ -47,12 +63,12 @@ impl Column {
 
     /// Its weight in a knapsack row.
     pub(crate) fn knapsack_weight(&self, row: u32) -> u64 {
-        let place = self.knapsack.partition_point(|entry| entry.0 < row);
-        if place < self.knapsack.len() && self.knapsack[place].0 == row {
-            self.knapsack[place].1
-        } else {
-            0
+        for (number, weight) in &self.knapsack {
+            if *number == row {
+                return *weight;
+            }
         }
+        0
     }
 
     /// What of the scaled gain is left behind the multiplied weights.
@@ -109,6 +125,7 @@ fn column_of(alloc: Global, var: &Var, scale: u32, rows: &NamedRows) -> Result<C
     Ok(Column {
         gain: scaled(var.gain, scale),
         knapsack,
+        run: run_of(&packing),
         packing,
     })
 }

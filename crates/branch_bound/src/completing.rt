@@ -91,7 +91,7 @@ impl Completion {
     ) -> Result<Completion, AllocError> {
         let mut completion = Completion {
             slack: copy_of(alloc, &node.slack)?,
-            full: Vec::from_slice(alloc, &node.full)?,
+            full: Vec::from_slice(alloc, node.full())?,
             taken: Vec::from_slice(alloc, &relaxation.taken)?,
             gain: node.gained.saturating_add(relaxation.gain),
         };

@@ -151,10 +151,11 @@ impl LagrangianDual {
     /// Finds the bound at the multipliers, and what it shows.
     fn evaluate(&mut self, alloc: Global, layout: &Layout) -> Result<BoundStatus, AllocError> {
         self.relaxation
-            .relax(alloc, layout, &self.node, &self.live, &self.multipliers)?;
+            .relax(layout, &self.node, &self.live, &self.multipliers);
         if self.relaxation.value <= self.node.goal() {
             return Ok(BoundStatus::Fathomed);
         }
+        self.relaxation.choose_tied(alloc, layout, &self.live)?;
         if !self.relaxation.is_feasible(layout, &self.node) {
             return Ok(BoundStatus::Undecided);
         }

@@ -99,10 +99,10 @@ impl LiveVars {
         multipliers: &[u64],
     ) -> Result<LiveVars, AllocError> {
         let mut live = LiveVars {
-            loose: Vec::new(alloc),
-            tied: Vec::new(alloc),
-            loose_prices: Vec::new(alloc),
-            tied_prices: Vec::new(alloc),
+            loose: Vec::with_capacity(alloc, layout.loose.len())?,
+            tied: Vec::with_capacity(alloc, layout.tied.len())?,
+            loose_prices: Vec::with_capacity(alloc, layout.loose.len())?,
+            tied_prices: Vec::with_capacity(alloc, layout.tied.len())?,
             before: Vec::with_capacity(alloc, layout.tied.len().saturating_add(1))?,
             row: layout.first_knapsack(),
         };

@@ -1,6 +1,6 @@
 use crate::columns::Column;
 use crate::layout::Layout;
-use crate::numbers::{first_numbers, is_set, number_at, put, set, unset};
+use crate::numbers::{first_numbers, is_set, number_at, put, set, unset, zeros};
 use certificate_checker::{Fixing, is_free, is_one};
 use std::alloc::{AllocError, Global};
 
@@ -10,7 +10,9 @@ pub(crate) struct Node {
     /// Of each row up to the last knapsack row, what the variables that are fixed to one leave of its capacity.
     pub slack: Vec<u64>,
     /// Whether one of them takes a packing row.
-    pub full: Vec<bool>,
+    full: Vec<bool>,
+    /// Of each row the first one from it on that is full, past the last row where none is.
+    next_full: Vec<u64>,
     /// A row that they exceed.
     pub exceeded: Option<u32>,
     /// Whether a variable is fixed to one.
@@ -51,13 +53,14 @@ fn fix_to_one(node: &mut Node, column: &Column) {
     }
 }
 
-fn is_open(node: &Node, column: &Column) -> bool {
-    for row in &column.packing {
-        if is_set(&node.full, *row as usize) {
-            return false;
+fn find_full(node: &mut Node) {
+    let mut next = node.full.len();
+    for row in (0..node.full.len()).rev() {
+        if is_set(&node.full, row) {
+            next = row;
         }
+        put(&mut node.next_full, row, next as u64);
     }
-    true
 }
 
 fn fix_all(node: &mut Node, layout: &Layout, marks: &[Fixing]) {
@@ -73,7 +76,7 @@ fn mark_free(node: &mut Node, layout: &Layout, marks: &[Fixing]) {
     for number in 0..marks.len() {
         if number < layout.columns.len() && is_free(marks, number) {
             set(&mut node.free, number);
-            if is_open(node, &layout.columns[number]) {
+            if node.full_row(&layout.columns[number]).is_none() {
                 set(&mut node.live, number);
             }
         }
@@ -92,6 +95,7 @@ impl Node {
         let mut node = Node {
             slack: first_numbers(alloc, &layout.rows.capacities, layout.knapsack_end)?,
             full: unset(alloc, layout.rows.numbers.len())?,
+            next_full: zeros(alloc, layout.rows.numbers.len())?,
             exceeded: None,
             ones: unset(alloc, count)?,
             free: unset(alloc, count)?,
@@ -100,8 +104,34 @@ impl Node {
             target,
         };
         fix_all(&mut node, layout, marks);
+        find_full(&mut node);
         mark_free(&mut node, layout, marks);
         Ok(node)
+    }
+
+    /// The first packing row of a variable that is full.
+    pub(crate) fn full_row(&self, column: &Column) -> Option<usize> {
+        match column.run {
+            Some(run) => {
+                let next = number_at(&self.next_full, run.first) as usize;
+                if next <= run.last { Some(next) } else { None }
+            }
+            None => self.first_full(&column.packing),
+        }
+    }
+
+    fn first_full(&self, packing: &[u32]) -> Option<usize> {
+        for row in packing {
+            if is_set(&self.full, *row as usize) {
+                return Some(*row as usize);
+            }
+        }
+        None
+    }
+
+    /// Which packing rows are full.
+    pub(crate) fn full(&self) -> &[bool] {
+        &self.full
     }
 
     /// The scaled gains that the free variables have to stay within.

@@ -6,6 +6,31 @@ use crate::numbers::{add, is_set, number_at, numbered, put, set, take_off, unset
 use std::alloc::{AllocError, Global};
 use std::mem::replace;
 
+/// What some live variables with packing rows hold.
+#[derive(Clone, Copy, Drop)]
+struct Reach {
+    /// What they hold at most.
+    held: u64,
+    /// How many of them there are up to the last one that is taken for that, 0 where none is.
+    end: usize,
+}
+
+const NO_REACH: Reach = Reach { held: 0, end: 0 };
+
+fn reach_at(reach: &[Reach], count: usize) -> Reach {
+    if count < reach.len() {
+        reach[count]
+    } else {
+        NO_REACH
+    }
+}
+
+fn no_reach(alloc: Global, count: usize) -> Result<Vec<Reach>, AllocError> {
+    let mut reach = Vec::new(alloc);
+    reach.resize(count, NO_REACH)?;
+    Ok(reach)
+}
+
 /// What the free variables gain at most where the knapsack rows have multipliers in place of capacities.
 ///
 /// The packing rows are kept: where each variable takes neighbouring ones, as blocks of code and the
@@ -14,12 +39,12 @@ use std::mem::replace;
 pub(crate) struct LagrangianRelaxation {
     /// The bound on the scaled gains of the free variables.
     pub value: u64,
-    /// What so many of the live variables with packing rows hold at most, the first ones by their last rows.
-    reach: Vec<u64>,
-    /// How many of these there are up to the last one that is taken for that, 0 where none is.
-    ends: Vec<u64>,
+    /// Of so many of the live variables with packing rows, the first ones by their last rows.
+    reach: Vec<Reach>,
     /// The places of the live variables with packing rows that it takes, the last one first.
     chosen: Vec<u32>,
+    /// Room for those of the next trial.
+    spare: Vec<u32>,
     /// For each of these the last trial that took it.
     chosen_by: Vec<u64>,
     /// How many multipliers were tried at this node.
@@ -47,9 +72,9 @@ impl LagrangianRelaxation {
         let tied = live.tied.len();
         Ok(LagrangianRelaxation {
             value: u64::MAX,
-            reach: zeros(alloc, tied.saturating_add(1))?,
-            ends: zeros(alloc, tied.saturating_add(1))?,
+            reach: no_reach(alloc, tied.saturating_add(1))?,
             chosen: Vec::new(alloc),
+            spare: Vec::new(alloc),
             chosen_by: zeros(alloc, tied)?,
             trials: 0,
             taken: unset(alloc, vars)?,
@@ -95,20 +120,22 @@ impl LagrangianRelaxation {
 
     /// What the variables with packing rows hold at most, up to each one.
     fn settle(&mut self, live: &LiveVars, multiplier: u64) {
-        let mut best: u64 = 0;
-        let mut end = 0;
+        let mut best = NO_REACH;
         for (place, var) in live.tied.iter().enumerate() {
             let count = place.saturating_add(1);
-            let behind = number_at(&self.reach, var.from as usize);
+            let behind = reach_at(&self.reach, var.from as usize).held;
             let with = behind.saturating_add(var.reduced_gain(multiplier));
-            if with > best {
-                best = with;
-                end = count as u64;
+            if with > best.held {
+                best = Reach {
+                    held: with,
+                    end: count,
+                };
             }
-            put(&mut self.reach, count, best);
-            put(&mut self.ends, count, end);
+            if count < self.reach.len() {
+                self.reach[count] = best;
+            }
         }
-        self.value = self.value.saturating_add(best);
+        self.value = self.value.saturating_add(best.held);
     }
 
     fn choose_loose(&mut self, layout: &Layout, live: &LiveVars, multiplier: u64) {
@@ -125,18 +152,18 @@ impl LagrangianRelaxation {
     }
 
     /// The places of the variables with packing rows that hold the most together, from the last one back.
-    fn chain(&self, alloc: Global, live: &LiveVars) -> Result<Vec<u32>, AllocError> {
-        let mut places = Vec::new(alloc);
+    fn chain(&self, live: &LiveVars, places: &mut Vec<u32>) -> Result<(), AllocError> {
+        places.clear();
         let mut count = live.tied.len();
         for _ in 0..live.tied.len() {
-            let end = number_at(&self.ends, count) as usize;
+            let end = reach_at(&self.reach, count).end;
             if end == 0 || end > live.tied.len() {
-                return Ok(places);
+                return Ok(());
             }
             places.push(numbered(end - 1))?;
             count = live.tied[end - 1].from as usize;
         }
-        Ok(places)
+        Ok(())
     }
 
     /// Takes variables with packing rows, where they aren't taken yet.
@@ -161,17 +188,19 @@ impl LagrangianRelaxation {
         }
     }
 
-    /// Chooses variables with packing rows.
-    fn choose_tied(
+    /// Chooses variables with packing rows, at the multipliers at which the bound was found last.
+    pub(crate) fn choose_tied(
         &mut self,
         alloc: Global,
         layout: &Layout,
         live: &LiveVars,
     ) -> Result<(), AllocError> {
-        let places = self.chain(alloc, live)?;
+        let mut places = replace(&mut self.spare, Vec::new(alloc));
+        self.chain(live, &mut places)?;
         self.take_chosen(layout, live, &places);
         let before = replace(&mut self.chosen, places);
         self.drop_others(layout, live, &before);
+        self.spare = before;
         Ok(())
     }
 
@@ -184,31 +213,25 @@ impl LagrangianRelaxation {
         }
     }
 
-    /// Finds the bound at these multipliers.
+    /// Finds the bound at these multipliers, and chooses variables without packing rows: the others are for `choose_tied`.
     pub(crate) fn relax(
         &mut self,
-        alloc: Global,
         layout: &Layout,
         node: &Node,
         live: &LiveVars,
         multipliers: &[u64],
-    ) -> Result<(), AllocError> {
+    ) {
         let multiplier = live.multiplier(multipliers);
         self.trials = self.trials.saturating_add(1);
         self.value = 0;
         self.add_slack_cost(layout, node, multipliers);
         self.choose_loose(layout, live, multiplier);
         self.settle(live, multiplier);
-        self.choose_tied(alloc, layout, live)
     }
 
-    /// What a row adds to what the rows hold at most.
-    pub(crate) fn step(&self, layout: &Layout, live: &LiveVars, row: usize) -> u64 {
-        let behind = number_at(
-            &self.reach,
-            live.ended_before(layout, row.saturating_add(1)),
-        );
-        behind.saturating_sub(number_at(&self.reach, live.ended_before(layout, row)))
+    /// What the rows before one hold at most.
+    pub(crate) fn held_before(&self, layout: &Layout, live: &LiveVars, row: usize) -> u64 {
+        reach_at(&self.reach, live.ended_before(layout, row)).held
     }
 
     /// Whether what it takes stays within the slack of the knapsack rows.
