@@ -5,7 +5,7 @@ ghost use Rattle.flat_machine.specs.Start as flat_start;
 ghost use Rattle.loaded_file.specs.Read.{IsRead};
 ghost use Rattle.object_graph.specs.Graphs.{IsGraph};
 ghost use Rattle.code_blocks.specs.{Leaders.{is_leader}, Blocks.{IsCode}};
-ghost use Rattle.object_machine.specs.{Program.{program_of}, Start.{start_of}};
+ghost use Rattle.object_machine.specs.{Program.{Program, program_of}, Start.{start_of}, State.{SourceState}, Machine.{IsProgram, state_of}};
 ghost use Rattle.result_laws.specs.ResultLaws as laws;
 ghost use Rattle.compare_runner.specs.Comparing.{Compares};
 
@@ -68,7 +68,27 @@ pub fn compare(
         board,
         input,
     )?;
-    let taken = run_source(&mut program, n)?;
+    match compare_from(alloc, &mut program, relinked, board, input, n) {
+        Ok(comparison) => Ok(comparison),
+        Err(error) => Err(error),
+    }
+}
+
+/// Compares what a program does from where it is with what its result does.
+fn compare_from(
+    alloc: Global,
+    program: &mut Source,
+    relinked: &ElfView,
+    board: &Board,
+    input: &[u8],
+    n: u64,
+) -> Result<Comparison, AllocError>
+    requires { AreLoadable (segments_of relinked.now) }
+    ensures { let start = flat_start.start_of relinked.now.entry (segments_of relinked.now) (mapped_ranges board.now) input.now in
+        IfOk result (λ r. (p : Program) → IsProgram p program.old → (s : SourceState) → state_of p program.old ≡ s
+        → Compares p board.now n s start r) }
+{
+    let taken = run_source(program, n)?;
     let outcome = program.outcome();
     if let Outcome::AddressFault { pc, why } = outcome {
         return Ok(Comparison::SourceFault { pc, why });
