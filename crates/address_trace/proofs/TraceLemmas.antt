@@ -117,3 +117,15 @@ starts_there w most region home s t flat region_is home_is flat_is starts =
     subst (λ (x : State). StartsWithin (IsAtForm w.units w.board 0 region home) most x) (sym flat_is)
     (subst (λ (k : ℕ). StartsWithin (IsAtForm w.units w.board 0 region k) most t) (sym home_is)
     (subst (λ (k : ℕ). StartsWithin (IsAtForm w.units w.board 0 k s.pc) most t) (sym region_is) starts))
+
+-- a trace from where both machines are, and from the starts that these are
+
+pub starts_same : (w : TracedProgram) (most : ℕ) (source s : SourceState) (flat t : State) → source ≡ s → flat ≡ t → StartsWithin (IsAtForm w.units w.board 0 (region_in w 0 s) s.pc) most t → StartsWithin (IsAtForm w.units w.board 0 (region_in w 0 source) source.pc) most flat
+starts_same w most source s flat t source_is flat_is starts =
+    subst (λ (x : State). StartsWithin (IsAtForm w.units w.board 0 (region_in w 0 source) source.pc) most x) (sym flat_is)
+    (subst (λ (x : SourceState). StartsWithin (IsAtForm w.units w.board 0 (region_in w 0 x) x.pc) most t) (sym source_is) starts)
+
+pub tells_same : (v : PlainView) (objects : List Object) (w : TracedProgram) (n : ℕ) (source s : SourceState) (flat t : State) (text : TraceText) → source ≡ s → flat ≡ t → TellsTrace v objects w n source flat text → TellsTrace v objects w n s t text
+tells_same v objects w n source s flat t text source_is flat_is tells =
+    subst (λ (x : State). TellsTrace v objects w n s x text) flat_is
+    (subst (λ (x : SourceState). TellsTrace v objects w n x flat text) source_is tells)

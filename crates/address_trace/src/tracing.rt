@@ -166,11 +166,38 @@ pub fn trace(
     };
     let mut source = Source::new(alloc, &a.view, &a.graph, &a.code, board, input)?;
     let mut flat = Flat::new(alloc, relinked.view, board, input, PageStore::new(alloc))?;
+    match trace_from(alloc, &of, &mut source, &mut flat, count) {
+        Ok(text) => Ok(text),
+        Err(error) => Err(error),
+    }
+}
+
+/// Traces a program beside its result, each from where its machine is.
+///
+/// It fails only where no memory was left.
+fn trace_from<S: ByteStore>(
+    alloc: Global,
+    of: &Traced,
+    source: &mut Source,
+    flat: &mut Flat<S>,
+    count: u64,
+) -> Result<TraceText, AllocError>
+    requires traced { AreInOrder of.now }
+    requires program { IsProgram (program_of (plain_view of.now.view.now) of.now.board.now of.now.graph.now) source.old }
+    requires going { (flat_machine_specs.state_of S.byte_at flat.old).outcome ≡ FlatOutcome.GoesOn }
+    requires starts { let p = program_of (plain_view of.now.view.now) of.now.board.now of.now.graph.now in
+        let w = traced_by p of.now in
+        let s = state_of p source.old in
+        StartsWithin (IsAtForm w.units w.board 0 (region_in w 0 s) s.pc) (result_laws.most_steps of.now.board.now) (flat_machine_specs.state_of S.byte_at flat.old) }
+    ensures { IfOk result (λ text. let v = plain_view of.now.view.now in
+        let p = program_of v of.now.board.now of.now.graph.now in
+        TellsTrace v of.now.graph.now.objects.items (traced_by p of.now) count (state_of p source.old) (flat_machine_specs.state_of S.byte_at flat.old) text) }
+{
     let home = source.at();
-    let region = region_behind(&of, 0, home);
-    let start = find_first(&of, &mut flat, region, home)?;
+    let region = region_behind(of, 0, home);
+    let start = find_first(of, flat, region, home)?;
     let mut bytes = start_line(alloc, start)?;
-    let traced = trace_steps(&of, &mut bytes, &mut source, &mut flat, region, count)?;
+    let traced = trace_steps(of, &mut bytes, source, flat, region, count)?;
     Ok(TraceText {
         bytes,
         steps: traced.steps,
