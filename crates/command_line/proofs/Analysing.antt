@@ -17,7 +17,7 @@ use Rattle.command_line.specs.ProgramRun.{RejectsProfiled}
 use Rattle.command_line.specs.ProgramRun as program
 use Rattle.command_line.specs.CompareFiles.{RejectsCompared}
 use Rattle.command_line.specs.CompareFiles as compared
-use Rattle.command_line.specs.declared.opening.Opened.{Opened}
+use Rattle.command_line.specs.declared.opened.Opened.{Opened}
 use Rattle.command_language.specs.declared.faults.CommandFault.{CommandFault}
 use Rattle.command_language.specs.declared.faults.CommandFault.TheVariants as command_fault
 

@@ -22,7 +22,7 @@ use Rattle.relinking.specs.ProgrammeOfRun.{StatesProgramme}
 use Rattle.relinking.specs.FoundChoice.{IsLeast}
 use Rattle.printed_lines.specs.ReportText.{IsReport}
 use Rattle.command_line.specs.CheckFile.{answer_of, AcceptsChoice, ReportsText, told_of, ReportsCertificate, unspelled, answered, of_run, of_certificate, RejectsChecked, RejectsText}
-use Rattle.command_line.specs.declared.opening.Opened.{Opened}
+use Rattle.command_line.specs.declared.opened.Opened.{Opened}
 use Rattle.command_language.specs.declared.faults.CommandFault.{CommandFault}
 use Rattle.relinking.proofs.Analysed.{findings}
 use Rattle.command_line.proofs.Analysing.{opened_view}

@@ -22,7 +22,7 @@ use Rattle.command_language.specs.FaultLine.{elf_parts, parts_of, elf_command_fa
 use Rattle.command_line.specs.Analysed.{Accepts, IsOpened}
 use Rattle.printed_lines.specs.Endings.{IsAddressFault}
 use Rattle.command_line.specs.CompareFiles.{Compared, ComparesTo, HasEnding, AnswersComparison, RejectsComparison, RejectsCompared, of_relinked, of_comparison}
-use Rattle.command_line.specs.declared.opening.Opened.{Opened}
+use Rattle.command_line.specs.declared.opened.Opened.{Opened}
 use Rattle.command_language.specs.declared.faults.CommandFault.{CommandFault}
 use Rattle.command_language.specs.declared.faults.CommandFault.TheVariants as command_fault
 use Rattle.command_line.proofs.Analysing.{opened_view}

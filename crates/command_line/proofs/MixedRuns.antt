@@ -22,7 +22,7 @@ use Rattle.command_language.specs.FaultLine.{parts_of, profile_command_fault}
 use Rattle.command_line.specs.Analysed.{Accepts, IsOpened, RejectsAnalysed}
 use Rattle.command_line.specs.CheckFile.{RejectsText}
 use Rattle.command_line.specs.MixFile.{inputs_of, StatesOfAll, RunsWell, ReportsRuns, of_files, of_run, of_none, of_inputs, of_certificate, RejectsRuns, RejectsCheckedRuns}
-use Rattle.command_line.specs.declared.opening.Opened.{Opened}
+use Rattle.command_line.specs.declared.opened.Opened.{Opened}
 use Rattle.command_line.proofs.Analysing.{opened_view}
 use Rattle.command_line.proofs.Profiling.{fault_run}
 use Rattle.command_language.specs.declared.faults.CommandFault.{CommandFault}

@@ -52,7 +52,7 @@ use Rattle.command_line.specs.Analysed.{IsOpened}
 use Rattle.command_line.specs.ProgramRun.{StatesOf}
 use Rattle.command_line.specs.CheckFile.{AcceptsChoice, RejectsChecked}
 use Rattle.command_line.specs.PaidFile.{paid_text, modelled_text, MakesOf, Pays, WhereExited, PaysTo, of_check, of_result, RejectsPaid, CountsFor, RunsMade, MakesLines, RejectsMade}
-use Rattle.command_line.specs.declared.opening.Opened.{Opened}
+use Rattle.command_line.specs.declared.opened.Opened.{Opened}
 use Rattle.command_line.proofs.Analysing.{opened_view}
 use Rattle.command_line.proofs.Certificates.{accepted_feasible}
 

@@ -19,7 +19,7 @@ use Rattle.relinking.proofs.Analysed.{findings}
 use Rattle.relinking.proofs.Counting.{faulted, unfaulted}
 use Rattle.command_language.specs.FaultLine.{profile_command_fault}
 use Rattle.command_line.specs.Analysed.{IsOpened}
-use Rattle.command_line.specs.declared.opening.Opened.{Opened}
+use Rattle.command_line.specs.declared.opened.Opened.{Opened}
 use Rattle.command_line.proofs.Analysing.{opened_view}
 use Rattle.relinking.specs.Runs.{RunsProgram}
 use Rattle.relinking.specs.MeasuredRuns.{EndsSo}

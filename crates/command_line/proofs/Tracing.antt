@@ -45,7 +45,7 @@ use Rattle.command_line.specs.Analysed.{IsOpened}
 use Rattle.command_line.specs.CheckFile.{AcceptsChoice}
 use Rattle.command_line.specs.PaidFile.{MakesOf, CountsFor}
 use Rattle.command_line.specs.TraceFile.{traced_line, MovesSome, TracesMade, TracesTo, MakesTrace, StartsIn, TracesIn, TellsLines}
-use Rattle.command_line.specs.declared.opening.Opened.{Opened}
+use Rattle.command_line.specs.declared.opened.Opened.{Opened}
 use Rattle.command_line.proofs.FirstSteps.{no_fault, TakesFirst, takes_first, first_count}
 use Rattle.command_line.proofs.Paying.{makes_of}
 

@@ -28,7 +28,7 @@ use Rattle.command_language.specs.FaultLine.{Parts, elf_parts, parts_of}
 use Rattle.command_language.specs.declared.faults.CommandFault.{CommandFault}
 use Rattle.command_language.specs.declared.faults.CommandFault.TheVariants as command_fault
 use Rattle.command_line.specs.Analysed.{Accepts}
-use Rattle.command_line.specs.declared.opening.Opened.{Opened}
+use Rattle.command_line.specs.declared.opened.Opened.{Opened}
 use Rattle.command_line.specs.ProgramRun.{StatesOf}
 use Rattle.command_line.specs.RunFile.{outcome_text}
 use Rattle.command_line.specs.CheckFile.{AcceptsChoice, ReportsChecked}

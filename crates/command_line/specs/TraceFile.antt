@@ -22,7 +22,7 @@ use Rattle.address_trace.specs.Marks.{trace_text}
 use Rattle.address_trace.specs.Laws.{TracesFiles, TakesFew, AreAtPlaces, made_places}
 use Rattle.address_trace.specs.declared.marks.TracedStep.{TracedStep}
 use Rattle.command_line.specs.Analysed.{Accepts}
-use Rattle.command_line.specs.declared.opening.Opened.{Opened}
+use Rattle.command_line.specs.declared.opened.Opened.{Opened}
 use Rattle.command_line.specs.PaidFile.{MakesOf}
 
 -- ---- the line

@@ -4,6 +4,7 @@ ghost use Rattle.command_line.specs.{Measured.{MeasuresTo}, CheckFile.{ChecksTo,
 
 use crate::accepting::accepted_choice;
 use crate::chosen::ChosenPlacement;
+use crate::opened::Opened;
 use crate::opening::open;
 use command_language::CommandFault;
 use placement_programme::{Choice, Programme};
@@ -14,13 +15,14 @@ use std::alloc::Global;
 
 /// The result of a `check` command, before it is printed.
 #[derive(Drop)]
-pub struct CheckedFile {
+pub struct CheckedFile<'a> {
     /// How the certificate's choice was found, and what the run costs with it, in lines.
     pub report: String,
     /// How the measured run ended.
     pub end: MeasuredEnd,
     /// The certificate's choice.
     pub chosen: ChosenPlacement,
+    pub opened: Opened<'a>,
 }
 
 /// A choice whose certificate holds.
@@ -37,14 +39,14 @@ pub struct CheckedChoice {
 /// The error is the first fault of the board's text, of the file, of where it lies, of its code, the address fault of the
 /// run, the first byte at which the text breaks the grammar, or how its certificate fails. `Memory` comes only where no
 /// memory was left.
-pub fn check_file(
+pub fn check_file<'a>(
     alloc: Global,
-    file: &[u8],
+    file: &'a [u8],
     board: &[u8],
     input: &[u8],
     cert: &[u8],
     progress: &dyn Progress,
-) -> Result<CheckedFile, CommandFault>
+) -> Result<CheckedFile<'a>, CommandFault>
     ensures ok { IfOk result (λ made. ChecksTo file.now board.now input.now cert.now (string_bytes made.report)) }
     ensures end { IfOk result (λ made. MeasuresTo file.now board.now input.now made.end) }
     ensures err { IfErr result (RejectsChecked board.now file.now input.now cert.now) }
@@ -60,6 +62,7 @@ pub fn check_file(
                 choice: checked.choice,
                 profile: Some(measured.profile),
             },
+            opened,
         }),
         Err(fault) => Err(fault),
     }

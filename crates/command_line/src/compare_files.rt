@@ -2,6 +2,7 @@ ghost use Rattle.std.specs.Prelude.{◌≡◌, IfOk, IfErr};
 ghost use Rattle.printed_lines.specs.Endings.{IsAddressFault};
 ghost use Rattle.command_line.specs.CompareFiles.{ComparesTo, RejectsCompared, HasEnding, AnswersComparison, RejectsComparison, same_text};
 
+use crate::opened::Opened;
 use crate::opening::open;
 use command_language::CommandFault;
 use compare_runner::{Comparison, compare};
@@ -9,19 +10,26 @@ use object_machine::Outcome;
 use printed_lines::ending_line;
 use std::alloc::{AllocError, Global};
 
+/// The result of a `compare` command, before it is printed.
+#[derive(Drop)]
+pub struct ComparedFiles<'a> {
+    pub text: Vec<u8>,
+    pub opened: Opened<'a>,
+}
+
 /// Runs the program of a file and a file that it was relinked to, each on its machine, on one input. Where they do the
 /// same, it tells so in lines.
 ///
 /// The error is the first fault of the board's text, of the file, of where it lies, of its code, of its regions, of the relinked file,
 /// the address fault of the program's run, or a difference. `Memory` comes only where no memory was left.
-pub fn compare_files(
+pub fn compare_files<'a>(
     alloc: Global,
-    file: &[u8],
+    file: &'a [u8],
     relinked: &[u8],
     board: &[u8],
     input: &[u8],
-) -> Result<Vec<u8>, CommandFault>
-    ensures ok { IfOk result (λ text. ComparesTo file.now relinked.now board.now input.now text.items) }
+) -> Result<ComparedFiles<'a>, CommandFault>
+    ensures ok { IfOk result (λ made. ComparesTo file.now relinked.now board.now input.now made.text.items) }
     ensures err { IfErr result (RejectsCompared board.now file.now relinked.now input.now) }
 {
     let opened = open(alloc, file, board)?;
@@ -35,7 +43,7 @@ pub fn compare_files(
         opened.board.steps,
     )?;
     match answer(alloc, comparison) {
-        Ok(text) => Ok(text),
+        Ok(text) => Ok(ComparedFiles { text, opened }),
         Err(fault) => Err(fault),
     }
 }

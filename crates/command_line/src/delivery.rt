@@ -6,6 +6,7 @@ ghost use Rattle.shelf_io.specs.Shelf.{SetsName};
 
 use crate::chosen::ChosenPlacement;
 use crate::diagnostic::Diagnostic;
+use crate::opened::Opened;
 use crate::printing::put_text;
 use command_language::CommandFault;
 use printed_lines::Text;
@@ -53,6 +54,8 @@ pub struct PreparedResult<'a> {
     pub measured: Option<MeasuredEnd>,
     /// What the command chose, or whose certificate it checked.
     pub chosen: Option<ChosenPlacement>,
+    /// What the command analysed. It is for those who explain the command: no clause speaks of it.
+    pub opened: Option<Opened<'a>>,
 }
 
 impl<'a> PreparedResult<'a> {
@@ -81,6 +84,7 @@ impl<'a> PreparedResult<'a> {
             print_fault,
             measured,
             chosen,
+            opened: None,
         })
     }
 
@@ -107,6 +111,7 @@ impl<'a> PreparedResult<'a> {
             print_fault,
             measured,
             chosen: None,
+            opened: None,
         })
     }
 
@@ -132,6 +137,7 @@ impl<'a> PreparedResult<'a> {
             print_fault,
             measured,
             chosen,
+            opened: None,
         })
     }
 }

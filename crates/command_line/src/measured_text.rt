@@ -1,3 +1,4 @@
+use crate::opened::Opened;
 use printed_lines::Text;
 use relinking::MeasuredEnd;
 
@@ -7,4 +8,5 @@ pub struct MeasuredText<'a> {
     pub text: Text<'a>,
     /// How the measured run ended.
     pub end: MeasuredEnd,
+    pub opened: Opened<'a>,
 }

@@ -4,6 +4,7 @@ ghost use Rattle.printed_lines.specs.Texts.{text_of};
 ghost use Rattle.command_line.specs.MixFile.{MixesTo, RejectsRuns};
 
 use crate::chosen::ChosenPlacement;
+use crate::opened::Opened;
 use crate::opening::open;
 use command_language::CommandFault;
 use printed_lines::Text;
@@ -22,6 +23,7 @@ pub struct MixedFile<'a> {
     pub report: Text<'a>,
     /// What was chosen.
     pub chosen: ChosenPlacement,
+    pub opened: Opened<'a>,
 }
 
 /// Relinks a file for a board and several inputs with weights. The program is run on each input to measure it, for the
@@ -43,11 +45,11 @@ pub fn mix_file<'a>(
     let opened = open(alloc, file, board)?;
     let relinked = relink_runs(alloc, &opened.analysis, &opened.board, inputs, progress)?;
     let report = relink_report(alloc, &opened.analysis, &opened.board, &relinked)?;
-    Ok(mixed_file(relinked, report))
+    Ok(mixed_file(opened, relinked, report))
 }
 
 /// The parts of a file that was relinked, with the report on it.
-fn mixed_file(relinked: Relinked, report: Text<'_>) -> MixedFile<'_>
+fn mixed_file<'a>(opened: Opened<'a>, relinked: Relinked, report: Text<'a>) -> MixedFile<'a>
     ensures certificate { result.certificate ≡ relinked.certificate }
     ensures file { result.file ≡ relinked.result.bytes }
     ensures report { result.report ≡ report.entry }
@@ -63,5 +65,6 @@ fn mixed_file(relinked: Relinked, report: Text<'_>) -> MixedFile<'_>
             choice: found.choice,
             profile: None,
         },
+        opened,
     }
 }

@@ -62,7 +62,12 @@ fn mixed_result<'a>(
             let first = Output::new(alloc, 5, cert, mixed.certificate)?;
             let second = Output::new(alloc, 4, out, mixed.file)?;
             let chosen = Some(mixed.chosen);
-            Ok(PreparedResult::written_twice(alloc, first, second, mixed.report, None, chosen)?)
+            let report = mixed.report;
+            let made = PreparedResult::written_twice(alloc, first, second, report, None, chosen)?;
+            Ok(PreparedResult {
+                opened: Some(mixed.opened),
+                ..made
+            })
         }
         Err(fault) => Err(fault),
     }
@@ -71,7 +76,7 @@ fn mixed_result<'a>(
 /// Makes the report on a certificate for what a mix lists.
 pub fn prepare_check_mix<'a>(
     alloc: Global,
-    inputs: &InputTexts<'_>,
+    inputs: &InputTexts<'a>,
     progress: &dyn Progress,
 ) -> Result<PreparedResult<'a>, CommandFault>
     requires texts { length inputs.now.texts.now ≡ 4 }
@@ -97,7 +102,7 @@ pub fn prepare_check_mix<'a>(
 /// Makes it of the lines of the mix.
 fn checked_result<'a>(
     alloc: Global,
-    texts: &[Vec<u8>],
+    texts: &'a [Vec<u8>],
     listed: &ListedTexts<'_>,
     progress: &dyn Progress,
 ) -> Result<PreparedResult<'a>, CommandFault>
@@ -113,7 +118,11 @@ fn checked_result<'a>(
         Ok(checked) => {
             let text = Text::plain(checked.report.into_bytes());
             let chosen = Some(checked.chosen);
-            Ok(PreparedResult::printed(alloc, text, None, chosen)?)
+            let made = PreparedResult::printed(alloc, text, None, chosen)?;
+            Ok(PreparedResult {
+                opened: Some(checked.opened),
+                ..made
+            })
         }
         Err(fault) => Err(fault),
     }

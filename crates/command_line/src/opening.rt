@@ -1,17 +1,11 @@
 ghost use Rattle.std.specs.Prelude.{IfOk, IfErr};
 ghost use Rattle.command_line.specs.Analysed.{IsOpened, RejectsAnalysed};
 
-use board_config::{Board, read_board};
+use crate::opened::Opened;
+use board_config::read_board;
 use command_language::CommandFault;
-use relink_core::{Analysis, analyse};
+use relink_core::analyse;
 use std::alloc::Global;
-
-/// A board, and a file that is analysed for it.
-#[derive(Drop)]
-pub struct Opened<'a> {
-    pub board: Board,
-    pub analysis: Analysis<'a>,
-}
 
 /// Reads a board, and analyses a file for it.
 ///

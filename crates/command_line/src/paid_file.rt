@@ -10,7 +10,8 @@ ghost use Rattle.command_line.specs.{Analysed.{IsOpened}, Measured.{MeasuresTo},
 
 use crate::accepting::accepted_choice;
 use crate::measured_text::MeasuredText;
-use crate::opening::{Opened, open};
+use crate::opened::Opened;
+use crate::opening::open;
 use crate::outcomes::outcome_line;
 use board_config::Board;
 use command_language::CommandFault;
@@ -33,7 +34,7 @@ use std::alloc::{AllocError, Global};
 /// was left.
 pub fn paid_file<'a>(
     alloc: Global,
-    file: &[u8],
+    file: &'a [u8],
     board: &[u8],
     input: &[u8],
     cert: &[u8],
@@ -49,7 +50,7 @@ pub fn paid_file<'a>(
         Ok(lines) => {
             let text = Text::plain(lines.into_bytes());
             let end = measured.end;
-            Ok(MeasuredText { text, end })
+            Ok(MeasuredText { text, end, opened })
         }
         Err(fault) => Err(fault),
     }

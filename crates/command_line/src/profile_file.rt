@@ -35,5 +35,5 @@ pub fn profile_file<'a>(
         &measured.profile,
     )?;
     let end = measured.end;
-    Ok(MeasuredText { text, end })
+    Ok(MeasuredText { text, end, opened })
 }

@@ -3,6 +3,7 @@ ghost use Rattle.printed_lines.specs.Texts.{text_of};
 ghost use Rattle.command_line.specs.{ProgramRun.{RejectsProfiled}, RelinkFile.{RelinksTo}, Measured.{MeasuresTo}};
 
 use crate::chosen::ChosenPlacement;
+use crate::opened::Opened;
 use crate::opening::open;
 use command_language::CommandFault;
 use printed_lines::Text;
@@ -23,6 +24,7 @@ pub struct RelinkedFile<'a> {
     pub end: MeasuredEnd,
     /// What was chosen.
     pub chosen: ChosenPlacement,
+    pub opened: Opened<'a>,
 }
 
 /// Relinks a file for a board. The program is run on the input to measure it, for the board's steps.
@@ -43,11 +45,11 @@ pub fn relink_file<'a>(
     let opened = open(alloc, file, board)?;
     let made = relink_analysed(alloc, &opened.analysis, &opened.board, input, progress)?;
     let report = relink_report(alloc, &opened.analysis, &opened.board, &made.relinked)?;
-    Ok(relinked_file(made, report))
+    Ok(relinked_file(opened, made, report))
 }
 
 /// The parts of a file that was relinked by one run, with the report on it.
-fn relinked_file(made: RelinkedRun, report: Text<'_>) -> RelinkedFile<'_>
+fn relinked_file<'a>(opened: Opened<'a>, made: RelinkedRun, report: Text<'a>) -> RelinkedFile<'a>
     ensures certificate { result.certificate ≡ made.relinked.certificate }
     ensures file { result.file ≡ made.relinked.result.bytes }
     ensures report { result.report ≡ report.entry }
@@ -66,5 +68,6 @@ fn relinked_file(made: RelinkedRun, report: Text<'_>) -> RelinkedFile<'_>
             choice: found.choice,
             profile: Some(made.profile),
         },
+        opened,
     }
 }

@@ -131,7 +131,12 @@ fn prepare_relink<'a>(
             let second = Output::new(alloc, 4, out, relinked.file)?;
             let end = Some(relinked.end);
             let chosen = Some(relinked.chosen);
-            Ok(PreparedResult::written_twice(alloc, first, second, relinked.report, end, chosen)?)
+            let report = relinked.report;
+            let made = PreparedResult::written_twice(alloc, first, second, report, end, chosen)?;
+            Ok(PreparedResult {
+                opened: Some(relinked.opened),
+                ..made
+            })
         }
         Err(fault) => Err(fault),
     }
@@ -149,12 +154,22 @@ fn prepare_profile<'a>(
         → RejectsInputs (profile_command f b i) (contents texts.now) fault) }
 {
     match profile_file(alloc, &texts[0], &texts[1], &texts[2], progress) {
-        Ok(made) => Ok(PreparedResult::printed(alloc, made.text, Some(made.end), None)?),
+        Ok(profiled) => {
+            let end = Some(profiled.end);
+            let made = PreparedResult::printed(alloc, profiled.text, end, None)?;
+            Ok(PreparedResult {
+                opened: Some(profiled.opened),
+                ..made
+            })
+        }
         Err(fault) => Err(fault),
     }
 }
 
-fn prepare_compare<'a>(alloc: Global, texts: &[Vec<u8>]) -> Result<PreparedResult<'a>, CommandFault>
+fn prepare_compare<'a>(
+    alloc: Global,
+    texts: &'a [Vec<u8>],
+) -> Result<PreparedResult<'a>, CommandFault>
     requires { length texts.now ≡ 4 }
     ensures ok { IfOk result (λ prepared. (f r b i : List ℕ)
         → IsPreparedFor (compare_command f r b i) (contents texts.now) prepared) }
@@ -162,14 +177,20 @@ fn prepare_compare<'a>(alloc: Global, texts: &[Vec<u8>]) -> Result<PreparedResul
         → RejectsInputs (compare_command f r b i) (contents texts.now) fault) }
 {
     match compare_files(alloc, &texts[0], &texts[1], &texts[2], &texts[3]) {
-        Ok(text) => Ok(PreparedResult::printed(alloc, Text::plain(text), None, None)?),
+        Ok(compared) => {
+            let made = PreparedResult::printed(alloc, Text::plain(compared.text), None, None)?;
+            Ok(PreparedResult {
+                opened: Some(compared.opened),
+                ..made
+            })
+        }
         Err(fault) => Err(fault),
     }
 }
 
 fn prepare_check<'a>(
     alloc: Global,
-    texts: &[Vec<u8>],
+    texts: &'a [Vec<u8>],
     progress: &dyn Progress,
 ) -> Result<PreparedResult<'a>, CommandFault>
     requires { length texts.now ≡ 4 }
@@ -179,10 +200,14 @@ fn prepare_check<'a>(
         → RejectsInputs (check_command f b i c) (contents texts.now) fault) }
 {
     match check_file(alloc, &texts[0], &texts[1], &texts[2], &texts[3], progress) {
-        Ok(made) => {
-            let text = Text::plain(made.report.into_bytes());
-            let chosen = Some(made.chosen);
-            Ok(PreparedResult::printed(alloc, text, Some(made.end), chosen)?)
+        Ok(checked) => {
+            let text = Text::plain(checked.report.into_bytes());
+            let chosen = Some(checked.chosen);
+            let made = PreparedResult::printed(alloc, text, Some(checked.end), chosen)?;
+            Ok(PreparedResult {
+                opened: Some(checked.opened),
+                ..made
+            })
         }
         Err(fault) => Err(fault),
     }
@@ -190,7 +215,7 @@ fn prepare_check<'a>(
 
 fn prepare_paid<'a>(
     alloc: Global,
-    texts: &[Vec<u8>],
+    texts: &'a [Vec<u8>],
     progress: &dyn Progress,
 ) -> Result<PreparedResult<'a>, CommandFault>
     requires { length texts.now ≡ 4 }
@@ -200,7 +225,13 @@ fn prepare_paid<'a>(
         → RejectsInputs (paid_command f b i c) (contents texts.now) fault) }
 {
     match paid_file(alloc, &texts[0], &texts[1], &texts[2], &texts[3], progress) {
-        Ok(made) => Ok(PreparedResult::printed(alloc, made.text, Some(made.end), None)?),
+        Ok(paid) => {
+            let made = PreparedResult::printed(alloc, paid.text, Some(paid.end), None)?;
+            Ok(PreparedResult {
+                opened: Some(paid.opened),
+                ..made
+            })
+        }
         Err(fault) => Err(fault),
     }
 }
@@ -209,7 +240,7 @@ fn prepare_trace<'a>(
     alloc: Global,
     count: u32,
     out: &'a str,
-    texts: &[Vec<u8>],
+    texts: &'a [Vec<u8>],
 ) -> Result<PreparedResult<'a>, CommandFault>
     requires { length texts.now ≡ 4 }
     ensures ok { IfOk result (λ prepared. (f b i c : List ℕ)
@@ -221,7 +252,11 @@ fn prepare_trace<'a>(
         Ok(traced) => {
             let line = traced.line.into_bytes();
             let end = Some(traced.end);
-            Ok(PreparedResult::written(alloc, 6, out, traced.text, line, end)?)
+            let made = PreparedResult::written(alloc, 6, out, traced.text, line, end)?;
+            Ok(PreparedResult {
+                opened: Some(traced.opened),
+                ..made
+            })
         }
         Err(fault) => Err(fault),
     }
@@ -235,7 +270,13 @@ fn prepare_show<'a>(alloc: Global, texts: &'a [Vec<u8>]) -> Result<PreparedResul
         → RejectsInputs (show_command f b) (contents texts.now) fault) }
 {
     match show_file(alloc, &texts[0], &texts[1]) {
-        Ok(text) => Ok(PreparedResult::printed(alloc, text, None, None)?),
+        Ok(shown) => {
+            let made = PreparedResult::printed(alloc, shown.text, None, None)?;
+            Ok(PreparedResult {
+                opened: Some(shown.opened),
+                ..made
+            })
+        }
         Err(fault) => Err(fault),
     }
 }

@@ -30,8 +30,8 @@ pub fn is_seen_safe(
     ensures unseen { IfOk result (λ safe. safe ≡ false → ComparesTo file.now file.now board.now input.now (codes "same\nrunning\n") ⊎ HasRelative (view_in file.now)) }
     ensures err { IfErr result (RejectsCompared board.now file.now file.now input.now) }
 {
-    let text = compare_files(alloc, file, file, board, input)?;
-    if tells_running(&text) {
+    let compared = compare_files(alloc, file, file, board, input)?;
+    if tells_running(&compared.text) {
         return Ok(false);
     }
     let view = elf_reader::read(alloc, file)?;

@@ -6,7 +6,8 @@ ghost use Rattle.relink_core.specs.{Choices.{IsAnalysisOf}, UnitMaps.{StandsBefo
 ghost use Rattle.command_line.specs.{Analysed.{IsOpened}, Measured.{MeasuresTo}, PaidFile.{CountsFor, RejectsMade, RejectsPaid}, TraceFile.{TracesTo, MakesTrace, StartsIn, TellsLines, traced_line}};
 
 use crate::accepting::accepted_choice;
-use crate::opening::{Opened, open};
+use crate::opened::Opened;
+use crate::opening::open;
 use address_trace::{TracedResult, moved_is_traced, results_start, trace, unmoved_is_traced};
 use board_config::Board;
 use command_language::CommandFault;
@@ -19,13 +20,14 @@ use std::alloc::{AllocError, Global};
 
 /// The result of a `trace` command, before any of it is written.
 #[derive(Drop)]
-pub struct TracedFile {
+pub struct TracedFile<'a> {
     /// The steps of both runs, in lines.
     pub text: Vec<u8>,
     /// How many steps of the program are traced, as a line.
     pub line: String,
     /// How the measured run ended.
     pub end: MeasuredEnd,
+    pub opened: Opened<'a>,
 }
 
 /// A trace, with the line on it.
@@ -39,14 +41,14 @@ struct TraceLines {
 /// steps of the program, and at most the board's.
 ///
 /// The error is that of `paid`. `Memory` comes only where no memory was left.
-pub fn trace_file(
+pub fn trace_file<'a>(
     alloc: Global,
-    file: &[u8],
+    file: &'a [u8],
     board: &[u8],
     input: &[u8],
     cert: &[u8],
     count: u32,
-) -> Result<TracedFile, CommandFault>
+) -> Result<TracedFile<'a>, CommandFault>
     ensures ok { IfOk result (λ r. TracesTo file.now board.now input.now cert.now count r.text.items (string_bytes r.line)) }
     ensures end { IfOk result (λ r. MeasuresTo file.now board.now input.now r.end) }
     ensures err { IfErr result (RejectsPaid board.now file.now input.now cert.now) }
@@ -58,6 +60,7 @@ pub fn trace_file(
             text: lines.text,
             line: lines.line,
             end: measured.end,
+            opened,
         }),
         Err(fault) => Err(fault),
     }

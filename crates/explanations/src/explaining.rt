@@ -2,11 +2,11 @@ use crate::inputs::inputs_of;
 use crate::inward::explain_inward;
 use crate::unread::{explain_list, explain_unread};
 use command_language::CommandFault;
-use command_line::{ChosenPlacement, InputTexts, PreparedResult};
+use command_line::{InputTexts, Opened, PreparedResult, open};
 use explanation_texts::{Command, Notes, explain_board, explain_status, gives_key};
 use program_explanations::{
-    Chosen, Inputs, explain_chosen, explain_end, explain_file, explain_others, explain_refusal,
-    explain_run, explain_saved, may_be_unpaired, subject_of,
+    Chosen, Inputs, Subject, explain_chosen, explain_end, explain_file, explain_others,
+    explain_refusal, explain_run, explain_saved, may_be_unpaired,
 };
 use std::alloc::AllocError;
 use unchecked_file::UncheckedFile;
@@ -26,9 +26,7 @@ pub(crate) fn explain_seen(
             Ok(())
         }
         _ => match (inputs_of(notes.alloc(), command, texts, made), made) {
-            (Some(inputs), Ok(prepared)) => {
-                explain_done(notes, &inputs, prepared.chosen.as_ref())
-            }
+            (Some(inputs), Ok(prepared)) => explain_done(notes, &inputs, prepared),
             (Some(inputs), Err(fault)) => explain_rejected(notes, words, command, &inputs, fault),
             (None, _) => Ok(()),
         },
@@ -58,7 +56,7 @@ fn explain_rejected(
                 explain_file(notes, &UncheckedFile { bytes });
             }
         }
-        _ => return explain_analysed(notes, inputs, None),
+        _ => return explain_analysed(notes, inputs, None, None),
     }
     Ok(())
 }
@@ -67,9 +65,9 @@ fn explain_rejected(
 fn explain_done(
     notes: &mut Notes,
     inputs: &Inputs,
-    placement: Option<&ChosenPlacement>,
+    prepared: &PreparedResult<'_>,
 ) -> Result<(), AllocError> {
-    let chosen = match placement {
+    let chosen = match &prepared.chosen {
         Some(it) => Chosen::new(inputs.alloc, &it.programme, &it.choice, it.profile.as_ref())?,
         None => None,
     };
@@ -85,22 +83,41 @@ fn explain_done(
         || gives_key(inputs.board_text(), b"driver")
         || may_be_unpaired(inputs)
     {
-        return explain_analysed(notes, inputs, chosen.as_ref());
+        return explain_analysed(notes, inputs, prepared.opened.as_ref(), chosen.as_ref());
     }
     Ok(())
 }
 
-/// A file that the command analysed for the board: its run, what it does beside its result, and what of it stays.
+/// A file that the command analysed for the board. It is analysed again only where the command handed out no analysis.
 fn explain_analysed(
     notes: &mut Notes,
     inputs: &Inputs,
+    opened: Option<&Opened<'_>>,
     chosen: Option<&Chosen>,
 ) -> Result<(), AllocError> {
     if !inputs.analyses {
         return Ok(());
     }
-    let Some(subject) = subject_of(inputs, inputs.file, inputs.board_text()) else {
-        return Ok(());
+    match opened {
+        Some(opened) => explain_opened(notes, inputs, opened, chosen),
+        None => match open(inputs.alloc, inputs.file, inputs.board_text()) {
+            Ok(opened) => explain_opened(notes, inputs, &opened, chosen),
+            Err(_) => Ok(()),
+        },
+    }
+}
+
+/// Its run, what it does beside its result, and what of it stays.
+fn explain_opened<'a>(
+    notes: &mut Notes,
+    inputs: &Inputs<'a>,
+    opened: &Opened<'a>,
+    chosen: Option<&Chosen>,
+) -> Result<(), AllocError> {
+    let subject = Subject {
+        inputs: *inputs,
+        board: &opened.board,
+        analysis: &opened.analysis,
     };
     explain_run(notes, &subject)?;
     if let Some(chosen) = chosen {

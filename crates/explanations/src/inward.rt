@@ -1,10 +1,6 @@
-ghost use Rattle.program_explanations.specs.Analysed.{IsAnalysed};
-
 use crate::paying::paid_text;
-use command_line::measured_run;
 use explanation_texts::{InwardCalls, Notes, say_inward};
 use program_explanations::{Chosen, InwardCall, Subject, inward_calls, made_calls, paid_of};
-use shelf_io::NoProgress;
 use std::alloc::AllocError;
 
 /// The inward calls of the measured runs: of each how many it makes, the first of them in the program, and what OUT pays for them.
@@ -12,11 +8,9 @@ pub(crate) fn explain_inward(
     notes: &mut Notes,
     subject: &Subject,
     chosen: &Chosen,
-) -> Result<(), AllocError>
-    requires { IsAnalysed subject.now }
-{
+) -> Result<(), AllocError> {
     let inputs = &subject.inputs;
-    let calls = inward_calls(inputs.alloc, &subject.analysis, chosen)?;
+    let calls = inward_calls(inputs.alloc, subject.analysis, chosen)?;
     if calls.is_empty() {
         return Ok(());
     }
@@ -33,15 +27,12 @@ pub(crate) fn explain_inward(
 }
 
 /// Those of the runs on the inputs of a mix, which are measured again.
-fn explain_mixed(notes: &mut Notes, subject: &Subject, calls: &[InwardCall])
-    requires { IsAnalysed subject.now }
-{
+fn explain_mixed(notes: &mut Notes, subject: &Subject, calls: &[InwardCall]) {
     let inputs = &subject.inputs;
-    let (analysis, board) = (&subject.analysis, &subject.board);
     let mut is_first = true;
     for (place, input) in inputs.listed.iter().enumerate() {
-        let made = match measured_run(inputs.alloc, analysis, board, input, &NoProgress) {
-            Ok(run) => made_calls(calls, &run.profile),
+        let made = match subject.profile(input) {
+            Ok(profile) => made_calls(calls, &profile),
             Err(_) => None,
         };
         if let Some(made) = made {

@@ -1,2 +1,1 @@
 pub use Rattle.relink_core.specs.Choices
-pub mod Analysed

@@ -1,5 +1,3 @@
-ghost use Rattle.program_explanations.specs.Analysed.{IsAnalysed};
-
 use crate::pairing::{explain_pairing, unsure_units};
 use crate::subject::Subject;
 use board_config::Board;
@@ -25,9 +23,7 @@ pub(crate) struct ProgramRun {
 }
 
 /// Whether FILE and RESULT do what the program does, and how far they were compared.
-pub(crate) fn explain_comparison(notes: &mut Notes, subject: &Subject) -> Result<(), AllocError>
-    requires { IsAnalysed subject.now }
-{
+pub(crate) fn explain_comparison(notes: &mut Notes, subject: &Subject) -> Result<(), AllocError> {
     let inputs = &subject.inputs;
     let (Some(input), Some(relinked)) = (inputs.input, inputs.beside) else {
         return Ok(());
@@ -39,7 +35,7 @@ pub(crate) fn explain_comparison(notes: &mut Notes, subject: &Subject) -> Result
     let may_be_unpaired = unsure_units(subject)?.is_some();
     if may_be_unpaired || inputs.goes_on {
         let run = run_program(subject, input)?;
-        let board = &subject.board;
+        let board = subject.board;
         if may_be_unpaired && !does_same(inputs.alloc, inputs.file, board, input, &run)? {
             notes.say_words(if differs { BOTH_DIFFER } else { FILE_DIFFERS });
             return explain_pairing(notes, subject);
@@ -55,9 +51,7 @@ pub(crate) fn explain_comparison(notes: &mut Notes, subject: &Subject) -> Result
 }
 
 /// Runs a program on an input for the board's steps, or until it ends.
-pub(crate) fn run_program(subject: &Subject, input: &[u8]) -> Result<ProgramRun, AllocError>
-    requires { IsAnalysed subject.now }
-{
+pub(crate) fn run_program(subject: &Subject, input: &[u8]) -> Result<ProgramRun, AllocError> {
     let mut source = subject.machine(input)?;
     for steps in 0..subject.board.steps {
         if source.outcome() != Outcome::GoesOn {

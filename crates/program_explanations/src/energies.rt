@@ -17,7 +17,7 @@ pub(crate) struct Energies<'a> {
 impl<'a> Energies<'a> {
     /// With everything at home, or with everything in the scratchpad.
     pub(crate) fn of(
-        subject: &'a Subject<'_>,
+        subject: &'a Subject<'_, '_>,
         profile: &'a Profile,
         in_scratchpad: bool,
     ) -> Energies<'a> {

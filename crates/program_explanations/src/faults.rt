@@ -1,5 +1,3 @@
-ghost use Rattle.program_explanations.specs.Analysed.{IsAnalysed};
-
 use crate::subject::Subject;
 use crate::trail::Trail;
 use crate::units::{TracedUnit, UnitTable};
@@ -31,9 +29,7 @@ pub(crate) fn follow_run(
     subject: &Subject,
     input: &[u8],
     most: u64,
-) -> Result<FollowedRun, AllocError>
-    requires { IsAnalysed subject.now }
-{
+) -> Result<FollowedRun, AllocError> {
     let alloc = subject.inputs.alloc;
     let graph = &subject.analysis.graph;
     let mut source = subject.machine(input)?;

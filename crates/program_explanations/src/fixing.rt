@@ -1,10 +1,12 @@
 use crate::names::symbol_name;
 use crate::runs::{BY_NUMBER, FaultyRuns, NamedFault, faulty_runs};
-use crate::subject::{Inputs, Subject, subject_of};
+use crate::subject::{Inputs, Subject};
+use board_config::read_board;
 use explanation_texts::{
     FixEnd, FixList, MORE_FAULTS, Notes, say_fault_cure, say_fix, say_further_fault, say_no_list,
     text_with_fixed,
 };
+use relink_core::analyse;
 use std::alloc::{AllocError, Global};
 
 /// How many runs are tried at most, and how many steps these take at most in all.
@@ -40,7 +42,7 @@ struct Search<'a> {
 /// What the faults of a run involve, one after the other, and the list of what to keep.
 pub(crate) fn explain_fixes<'a>(
     notes: &mut Notes,
-    subject: &Subject<'a>,
+    subject: &Subject<'a, '_>,
     first: &NamedFault<'a>,
 ) -> Result<(), AllocError> {
     let inputs = &subject.inputs;
@@ -82,7 +84,7 @@ impl<'a> Search<'a> {
     /// Keeps what each fault involves, until the run meets none.
     fn follow_faults(
         &mut self,
-        subject: &Subject<'a>,
+        subject: &Subject<'a, '_>,
         first: &NamedFault<'a>,
     ) -> Result<FixEnd, AllocError> {
         let mut fault = *first;
@@ -141,18 +143,17 @@ impl<'a> Search<'a> {
         names.extend_from_slice(further)?;
         let text = text_with_fixed(self.inputs.alloc, self.inputs.board_text(), &names)?;
         self.runs = self.runs.saturating_add(1);
-        let Some(subject) = subject_of(&self.inputs, self.inputs.file, &text) else {
-            return Ok(None);
-        };
-        let runs = faulty_runs(&subject, self.left)?;
-        self.left = self.left.saturating_sub(runs.steps);
-        Ok(Some(runs))
+        let runs = runs_on(&self.inputs, self.inputs.file, &text, self.left)?;
+        if let Some(runs) = &runs {
+            self.left = self.left.saturating_sub(runs.steps);
+        }
+        Ok(runs)
     }
 
     /// Keeps an object without which the run meets a fault, where no fault names one: of all in their order it is the last of
     /// the fewest that are enough. Tells whether there is one.
-    fn keep_by_halves(&mut self, subject: &Subject<'a>) -> Result<bool, AllocError> {
-        let analysis = &subject.analysis;
+    fn keep_by_halves(&mut self, subject: &Subject<'a, '_>) -> Result<bool, AllocError> {
+        let analysis = subject.analysis;
         let mut all = Vec::new(self.inputs.alloc);
         for object in &analysis.graph.objects {
             all.push(symbol_name(&analysis.view, object.name))?;
@@ -186,4 +187,26 @@ impl<'a> Search<'a> {
         }
         Ok(few)
     }
+}
+
+/// The runs of a file on a board by its text, in so many steps at most; `None` where the text or the file is refused for it, or
+/// no memory was left.
+fn runs_on<'a>(
+    inputs: &Inputs<'a>,
+    file: &'a [u8],
+    board_text: &[u8],
+    most_steps: u64,
+) -> Result<Option<FaultyRuns<'a>>, AllocError> {
+    let Ok(board) = read_board(inputs.alloc, board_text) else {
+        return Ok(None);
+    };
+    let Ok(analysis) = analyse(inputs.alloc, file, &board) else {
+        return Ok(None);
+    };
+    let subject = Subject {
+        inputs: *inputs,
+        board: &board,
+        analysis: &analysis,
+    };
+    Ok(Some(faulty_runs(&subject, most_steps)?))
 }

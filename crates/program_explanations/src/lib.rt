@@ -34,5 +34,5 @@ pub use pairing::may_be_unpaired;
 pub use refusals::{explain_file, explain_refusal};
 pub use runs::{explain_end, explain_run};
 pub use savings::explain_saved;
-pub use subject::{Inputs, RunEnd, Subject, subject_of};
+pub use subject::{Inputs, RunEnd, Subject};
 pub use telling::{explain_chosen, explain_others};

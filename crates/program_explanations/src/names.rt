@@ -37,7 +37,7 @@ pub(crate) fn name_at<'a>(view: &ElfView<'a>, address: u32) -> &'a [u8] {
 /// The names of the sources that have anchors in a section, as far as the file tells them, each once, in order. The time grows
 /// with n log n, where n is the number of symbols, and with the lengths of the names, each once.
 pub(crate) fn anchor_sources<'a>(
-    subject: &Subject<'a>,
+    subject: &Subject<'a, '_>,
     section: usize,
 ) -> Result<Vec<&'a [u8]>, AllocError> {
     let alloc = subject.inputs.alloc;

@@ -1,5 +1,3 @@
-ghost use Rattle.program_explanations.specs.Analysed.{IsAnalysed};
-
 use crate::names::object_name;
 use crate::paired_text::is_paired_by_text;
 use crate::subject::{Inputs, Subject};
@@ -51,7 +49,7 @@ fn is_site(movable: Option<&Graph>, address: u32) -> bool {
 /// so that its text alone tells that each run is.
 pub(crate) fn unsure_units(subject: &Subject) -> Result<Option<UnitTable>, AllocError> {
     let alloc = subject.inputs.alloc;
-    let analysis = &subject.analysis;
+    let analysis = subject.analysis;
     if !makes_relative(&analysis.view, Some(&analysis.graph)) {
         return Ok(None);
     }
@@ -64,9 +62,7 @@ pub(crate) fn unsure_units(subject: &Subject) -> Result<Option<UnitTable>, Alloc
 }
 
 /// The first of the program's runs that is not paired. They are followed again, unless the program's text tells that each is.
-pub(crate) fn explain_pairing(notes: &mut Notes, subject: &Subject) -> Result<(), AllocError>
-    requires { IsAnalysed subject.now }
-{
+pub(crate) fn explain_pairing(notes: &mut Notes, subject: &Subject) -> Result<(), AllocError> {
     let inputs = &subject.inputs;
     if !inputs.tells_pairing {
         return Ok(());
@@ -106,7 +102,7 @@ fn paired_lows(alloc: Global, view: &ElfView) -> Result<Vec<PairedLow>, AllocErr
 }
 
 fn explain_unpaired(notes: &mut Notes, subject: &Subject, unpaired: &Unpaired) {
-    let analysis = &subject.analysis;
+    let analysis = subject.analysis;
     let parts = MixedParts {
         low: match unpaired.object {
             Some(object) => object_name(&analysis.view, &analysis.graph, object),

@@ -15,8 +15,8 @@ const TOLD_BARRIERS: usize = 3;
 
 /// The regions that the board lists and that became none, and a driver whose callees make none.
 pub(crate) fn explain_regions(notes: &mut Notes, subject: &Subject) -> Result<(), AllocError> {
-    let board = &subject.board;
-    let analysis = &subject.analysis;
+    let board = subject.board;
+    let analysis = subject.analysis;
     let mut number: u32 = 0;
     for names in &board.regions {
         number = number.saturating_add(1);

@@ -1,5 +1,3 @@
-ghost use Rattle.program_explanations.specs.Analysed.{IsAnalysed};
-
 use crate::faults::follow_run;
 use crate::fixing::explain_fixes;
 use crate::names::{name_at, object_name, symbol_name};
@@ -46,11 +44,9 @@ pub(crate) struct FaultyRuns<'a> {
 
 /// A run that met an address fault, if this is the status of one, with the objects by which it meets none where these are
 /// kept: of the inputs that a mix lists, it is the first whose run meets one. The run is followed again, up to the fault.
-pub fn explain_run(notes: &mut Notes, subject: &Subject) -> Result<(), AllocError>
-    requires { IsAnalysed subject.now }
-{
+pub fn explain_run(notes: &mut Notes, subject: &Subject) -> Result<(), AllocError> {
     let file = subject.inputs.unchecked();
-    let analysis = &subject.analysis;
+    let analysis = subject.analysis;
     if let Some(end) = &subject.inputs.end {
         if end.outcome == Outcome::GoesOn {
             explain_itself(notes, analysis, end.at);
@@ -110,12 +106,10 @@ fn calls(code: &Code, function: usize, address: u32) -> bool {
 
 /// The program's runs up to the first address fault, in so many steps at most.
 pub(crate) fn faulty_runs<'a>(
-    subject: &Subject<'a>,
+    subject: &Subject<'a, '_>,
     most_steps: u64,
-) -> Result<FaultyRuns<'a>, AllocError>
-    requires { IsAnalysed subject.now }
-{
-    let analysis = &subject.analysis;
+) -> Result<FaultyRuns<'a>, AllocError> {
+    let analysis = subject.analysis;
     let mut runs = FaultyRuns {
         steps: 0,
         fault: None,

@@ -45,7 +45,7 @@ pub(crate) fn explain_taken(
     let mut more: u128 = 0;
     for (place, item) in items.iter().rev().enumerate() {
         if place < TOLD_ITEMS {
-            let told = moved_item(&subject.analysis, chosen, item);
+            let told = moved_item(subject.analysis, chosen, item);
             say_moved_item(notes, &told, &subject.inputs.unchecked());
         } else {
             more = more.saturating_add(item.gain);

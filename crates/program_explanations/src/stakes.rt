@@ -27,7 +27,7 @@ pub(crate) fn stake_in(
     section: usize,
 ) -> Result<Option<u64>, AllocError> {
     let inputs = &subject.inputs;
-    let board = &subject.board;
+    let board = subject.board;
     let section = subject.analysis.view.sections.get(section);
     let (Some(chosen), Some(input), Some(end), Some(section)) = (
         chosen,

@@ -52,7 +52,7 @@ const NO_REST: FunctionRest = FunctionRest {
 /// A choice of a program of which one run was measured, and what that costs.
 #[derive(Clone, Copy)]
 struct MeasuredChoice<'a, 'b> {
-    subject: &'a Subject<'b>,
+    subject: &'a Subject<'b, 'b>,
     chosen: &'a Chosen<'a>,
     at_home: Energies<'a>,
     in_scratchpad: Energies<'a>,
@@ -74,13 +74,13 @@ pub(crate) fn explain_staying(
         at_home: Energies::of(subject, profile, false),
         in_scratchpad: Energies::of(subject, profile, true),
     };
-    let items = staying_items(notes.alloc(), &subject.analysis, chosen, &measured.at_home)?;
+    let items = staying_items(notes.alloc(), subject.analysis, chosen, &measured.at_home)?;
     for item in items.iter().rev().take(TOLD_ITEMS) {
         if chosen.thousandths(item.energy) >= LEAST_SHARE {
             measured.explain_item(notes, item);
         }
     }
-    let rest = chosen.thousandths(rest_of(&subject.analysis, chosen.base, &measured.at_home));
+    let rest = chosen.thousandths(rest_of(subject.analysis, chosen.base, &measured.at_home));
     if rest >= LEAST_SHARE {
         say_staying_rest(notes, rest);
     }
@@ -184,7 +184,7 @@ fn push_objects(
 impl MeasuredChoice<'_, '_> {
     /// One that stays, and why.
     fn explain_item(&self, notes: &mut Notes, item: &Staying) {
-        let analysis = &self.subject.analysis;
+        let analysis = self.subject.analysis;
         let share = self.chosen.thousandths(item.energy);
         let told = match item.part {
             Part::Function { name, block } => StayingItem {
@@ -208,7 +208,7 @@ impl MeasuredChoice<'_, '_> {
 
     /// Why a block is in no piece that is taken.
     fn block_reason(&self, block: usize, part: Part) -> StayingReason {
-        let analysis = &self.subject.analysis;
+        let analysis = self.subject.analysis;
         if let Some(variable) = best_variable(&self.chosen.side.vars, part) {
             return self.chosen.untaken_reason(analysis.regions.count, variable);
         }
@@ -235,8 +235,8 @@ impl MeasuredChoice<'_, '_> {
 
     /// Why an object is not taken.
     fn object_reason(&self, number: usize, part: Part) -> StayingReason {
-        let board = &self.subject.board;
-        let analysis = &self.subject.analysis;
+        let board = self.subject.board;
+        let analysis = self.subject.analysis;
         let have = u64::from(board.spm.size);
         if let Some(variable) = best_variable(&self.chosen.side.vars, part) {
             return self.chosen.untaken_reason(analysis.regions.count, variable);

@@ -1,9 +1,11 @@
-ghost use Rattle.std.specs.Prelude.{IfSome};
-ghost use Rattle.program_explanations.specs.Analysed.{IsAnalysed};
+ghost use Rattle.std.specs.Prelude.{ℕ, List};
+ghost use Rattle.relink_core.specs.Choices.{IsAnalysisOf};
 
-use board_config::{Board, read_board};
+use board_config::Board;
 use object_machine::{Outcome, Source};
-use relink_core::{Analysis, analyse};
+use profile_runner::{Parts, Profile, ProfileFault, profile};
+use relink_core::Analysis;
+use shelf_io::NoProgress;
 use std::alloc::{AllocError, Global};
 use unchecked_file::{RawSegment, UncheckedFile};
 
@@ -74,41 +76,49 @@ impl<'a> Inputs<'a> {
 
 /// The program of a file that was analysed for a board, with what a command read and made.
 #[derive(Drop)]
-pub struct Subject<'a> {
+pub struct Subject<'a, 'b> {
     pub inputs: Inputs<'a>,
-    pub board: Board,
-    pub analysis: Analysis<'a>,
+    pub board: &'b Board,
+    pub analysis: &'b Analysis<'a>,
+    pub ghost analysed: { ∥ ((file : List ℕ) × IsAnalysisOf file board.now analysis.now) ∥₁ },
 }
 
-/// The program of the inputs' file for this text of a board; `None` where either is refused, or no memory was left.
-pub fn subject_of<'a>(inputs: &Inputs<'a>, file: &'a [u8], board_text: &[u8]) -> Option<Subject<'a>>
-    ensures { IfSome result IsAnalysed }
-{
-    let Ok(board) = read_board(inputs.alloc, board_text) else {
-        return None;
-    };
-    match analyse(inputs.alloc, file, &board) {
-        Ok(analysis) => Some(Subject {
-            inputs: *inputs,
-            board,
-            analysis,
-        }),
-        Err(_) => None,
-    }
-}
+impl Subject<'_, '_> {
+    ghost use Rattle.std.specs.Prelude.{IfOk};
+    ghost use Rattle.profile_runner.specs.Running.{HasStarted};
 
-impl Subject<'_> {
     /// A machine at the entry of the program, with an input.
     pub(crate) fn machine(&self, input: &[u8]) -> Result<Source, AllocError>
-        requires { IsAnalysed self.now }
+        ensures { IfOk result (HasStarted self.now.analysis.now.graph self.now.analysis.now.code) }
     {
-        Source::new(
+        match Source::new(
             self.inputs.alloc,
             &self.analysis.view,
             &self.analysis.graph,
             &self.analysis.code,
-            &self.board,
+            self.board,
             input,
+        ) {
+            Ok(source) => Ok(source),
+            Err(error) => Err(error),
+        }
+    }
+
+    /// What the program's run on an input does, counted. The error is the address fault of the run; `Memory` comes only where no
+    /// memory was left.
+    pub fn profile(&self, input: &[u8]) -> Result<Profile, ProfileFault> {
+        let mut source = self.machine(input)?;
+        let parts = Parts {
+            code: &self.analysis.code,
+            graph: &self.analysis.graph,
+            regions: &self.analysis.regions,
+        };
+        profile(
+            self.inputs.alloc,
+            &mut source,
+            &parts,
+            self.board.steps,
+            &NoProgress,
         )
     }
 }

@@ -1,5 +1,3 @@
-ghost use Rattle.program_explanations.specs.Analysed.{IsAnalysed};
-
 use crate::choice::Chosen;
 use crate::comparing::explain_comparison;
 use crate::pairing::explain_pairing;
@@ -18,9 +16,7 @@ pub fn explain_chosen(
     notes: &mut Notes,
     subject: &Subject,
     chosen: &Chosen,
-) -> Result<(), AllocError>
-    requires { IsAnalysed subject.now }
-{
+) -> Result<(), AllocError> {
     explain_unended(notes, subject)?;
     explain_taken(notes, subject, chosen)?;
     explain_room(notes, chosen, subject.analysis.regions.count);
@@ -32,9 +28,7 @@ pub fn explain_others(
     notes: &mut Notes,
     subject: &Subject,
     chosen: Option<&Chosen>,
-) -> Result<(), AllocError>
-    requires { IsAnalysed subject.now }
-{
+) -> Result<(), AllocError> {
     if subject.inputs.beside.is_some() {
         return explain_comparison(notes, subject);
     }

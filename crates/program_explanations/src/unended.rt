@@ -1,5 +1,3 @@
-ghost use Rattle.program_explanations.specs.Analysed.{IsAnalysed};
-
 use crate::comparing::{flat_machine, run_program};
 use crate::runs::explain_end;
 use crate::subject::{RunEnd, Subject};
@@ -9,9 +7,7 @@ use object_machine::Outcome;
 use std::alloc::AllocError;
 
 /// The runs of a mix that did not come to their program's end: the first of them, and how many more there are.
-pub(crate) fn explain_unended(notes: &mut Notes, subject: &Subject) -> Result<(), AllocError>
-    requires { IsAnalysed subject.now }
-{
+pub(crate) fn explain_unended(notes: &mut Notes, subject: &Subject) -> Result<(), AllocError> {
     let mut first: Option<(u64, RunEnd)> = None;
     let mut count: u64 = 0;
     for (place, input) in subject.inputs.listed.iter().enumerate() {
@@ -29,11 +25,9 @@ pub(crate) fn explain_unended(notes: &mut Notes, subject: &Subject) -> Result<()
 
 /// How the run on an input ended, if the program neither exited nor met an address fault. A file that exits within the board's
 /// steps needs no other run: its program takes no more.
-fn unended_run(subject: &Subject, input: &[u8]) -> Result<Option<RunEnd>, AllocError>
-    requires { IsAnalysed subject.now }
-{
+fn unended_run(subject: &Subject, input: &[u8]) -> Result<Option<RunEnd>, AllocError> {
     let inputs = &subject.inputs;
-    let board = &subject.board;
+    let board = subject.board;
     if let Some(mut machine) = flat_machine(inputs.alloc, inputs.file, board, input)? {
         if let FlatOutcome::Exited(_) = machine.run(board.steps)? {
             return Ok(None);

@@ -1,5 +1,3 @@
-ghost use Rattle.program_explanations.specs.Analysed.{IsAnalysed};
-
 use crate::origins::Trace;
 use crate::subject::Subject;
 use crate::trail::Trail;
@@ -15,9 +13,7 @@ pub(crate) fn unpaired_of_run(
     subject: &Subject,
     input: &[u8],
     units: &UnitTable,
-) -> Result<Option<Unpaired>, AllocError>
-    requires { IsAnalysed subject.now }
-{
+) -> Result<Option<Unpaired>, AllocError> {
     let alloc = subject.inputs.alloc;
     let graph = &subject.analysis.graph;
     let mut source = subject.machine(input)?;

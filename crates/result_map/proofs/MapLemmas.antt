@@ -22,7 +22,7 @@ use Rattle.address_trace.specs.Laws.{made_places}
 use Rattle.command_line.specs.Analysed.{IsOpened}
 use Rattle.command_line.specs.CheckFile.{AcceptsChoice}
 use Rattle.command_line.specs.PaidFile.{CountsFor}
-use Rattle.command_line.specs.declared.opening.Opened.{Opened}
+use Rattle.command_line.specs.declared.opened.Opened.{Opened}
 use Rattle.command_line.proofs.Paying.{makes_of}
 use Rattle.command_line.proofs.Tracing.{realised}
 use Rattle.result_map.specs.MapText.{MapOf, patch_rows, unit_rows, places_by, map_text}

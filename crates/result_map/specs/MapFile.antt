@@ -17,7 +17,7 @@ use Rattle.address_trace.specs.Laws.{made_places}
 use Rattle.command_line.specs.Analysed.{IsOpened}
 use Rattle.command_line.specs.PaidFile.{MakesOf}
 use Rattle.command_line.specs.TraceFile.{HasUnits}
-use Rattle.command_line.specs.declared.opening.Opened.{Opened}
+use Rattle.command_line.specs.declared.opened.Opened.{Opened}
 use Rattle.result_map.specs.MapText.{MapOf, map_text}
 
 -- the map of a result with its units

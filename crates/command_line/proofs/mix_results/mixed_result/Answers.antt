@@ -31,7 +31,7 @@ returns-in-Ok-clause-ok g c f b m =
     let texts = three_with_third c.args.texts.now c.index-texts-0.result c.index-texts-1.result file board c.requires.texts c.index-texts-0.is c.index-texts-1.is c.deref-2.ensures.value c.deref-3.ensures.value in
     let mixed = c.in-Ok.mixed in
     let is = subst (λ (ps : List WeightedInput). MixesTo file board ps mixed.certificate.items mixed.file.items (text_of mixed.report)) inputs c.in-Ok.ensures.ok in
-    let made = c.in_ok-written_twice-in-Ok.ensures in
+    let made = c.in_ok-made-in-Ok.ensures in
     record {
       outputs = mixed.certificate.items ∷ mixed.file.items ∷ [];
       yields = rw made.text (mixes f b m _ _ file board mix _ _ listed refl (ap (λ ts. ts ++ listed) (sym texts)) refl c.requires.listed.unbroken is);

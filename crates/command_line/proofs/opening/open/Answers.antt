@@ -17,6 +17,13 @@ returns-in_err-analysis-clause-err c =
     rw (p.1, p.2)
     (analysis_rejected c.args.board.now c.args.file.now c.in_ok-board.board c.in_ok-board.ensures.board c.in_ok-board.ensures.fault _ c.in_err-analysis.ensures.fault)
 
+pub invariant_of-result : goal.invariant_of-result
+invariant_of-result c =
+    let file = c.args.file.now in
+    let found = c.in_ok-analysis.ensures in
+    let bytes : AreBytes file = All-from_get_or IsByte file 0 (λ k below. let fits = c.type_inv.file k in omega (arith, fits)) in
+    record { analysed = ∣ (file, analysed file c.in_ok-board.board c.in_ok-analysis.analysis bytes c.in_ok-board.ensures.lawful found.file found.fault found.graph found.code found.live found.regions found.pieces) ∣₁ }
+
 pub returns-clause-ok : goal.returns-clause-ok
 returns-clause-ok c =
     let file = c.args.file.now in

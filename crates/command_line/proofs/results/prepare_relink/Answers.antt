@@ -7,10 +7,10 @@ use Rattle.command_line.proofs.CommandFaults.{relink_rejected}
 use Rattle.command_line.proofs.Readings.{contents_of_three}
 use Rattle.command_line.proofs.results.prepare_relink.Goals as goal
 
-pub returns-in_ok-written_twice-in-Ok-clause-ok : goal.returns-in_ok-written_twice-in-Ok-clause-ok
-returns-in_ok-written_twice-in-Ok-clause-ok g c f b i =
+pub returns-in_ok-made-in-Ok-clause-ok : goal.returns-in_ok-made-in-Ok-clause-ok
+returns-in_ok-made-in-Ok-clause-ok g c f b i =
     let are = contents_of_three c.args.texts.now c.index-texts-0.result c.index-texts-1.result c.index-texts-2.result _ _ _ c.requires c.index-texts-0.is c.index-texts-1.is c.index-texts-2.is c.deref.ensures.value c.deref-2.ensures.value c.deref-3.ensures.value in
-    let made = c.in_ok-written_twice-in-Ok.ensures in
+    let made = c.in_ok-made-in-Ok.ensures in
     record {
       outputs = c.in-Ok.relinked.certificate.items ∷ c.in-Ok.relinked.file.items ∷ [];
       yields = rw made.text (relinks f b i _ _ _ _ _ _ _ refl (sym are) refl c.in-Ok.ensures.ok);
@@ -32,4 +32,9 @@ returns-in_err-first-in-Ok-clause-err g c =
 pub returns-in_err-second-in-Ok-clause-err : goal.returns-in_err-second-in-Ok-clause-err
 returns-in_err-second-in-Ok-clause-err g c =
     let p = err_from_is_err_and c.from_residual-in_err-second-in-Ok.result c.from_residual-in_err-second-in-Ok.ensures.1 in
+    rw (p.1, p.2) (λ f b i. inl refl)
+
+pub returns-in_err-made-in-Ok-clause-err : goal.returns-in_err-made-in-Ok-clause-err
+returns-in_err-made-in-Ok-clause-err g c =
+    let p = err_from_is_err_and c.from_residual-in_err-made-in-Ok.result c.from_residual-in_err-made-in-Ok.ensures.1 in
     rw (p.1, p.2) (λ f b i. inl refl)

@@ -18,10 +18,10 @@ returns-clause-ok c =
     let opened = c.in_ok-opened.opened in
     let is = c.in_ok-opened.ensures.ok in
     let a = opened.analysis in
-    let text = text_of c.in_ok-show_lines.field-0 in
+    let text = text_of c.in_ok-text.text in
     record {
       board = opened.board;
       accepts = is.accepts;
       found = findings c.args.file.now opened.board a is.analysed;
-      text_is = subst (λ (v : PlainView). text ≡ show_text v a.graph.objects.items a.code.functions.items (starts_of a.code) a.regions.of_block.items) (opened_view c.args.board.now c.args.file.now opened is) c.in_ok-show_lines.ensures;
+      text_is = subst (λ (v : PlainView). text ≡ show_text v a.graph.objects.items a.code.functions.items (starts_of a.code) a.regions.of_block.items) (opened_view c.args.board.now c.args.file.now opened is) c.in_ok-text.ensures;
     }

@@ -1,0 +1,2 @@
+pub mod OneProof
+pub mod Analysed
