@@ -38,8 +38,8 @@ pub use fixes::{
 pub use mixes::{FAULTY_INPUT, UNPAIRED_INPUT, say_bad_line, say_line, say_unended_inputs};
 pub use notes::Notes;
 pub use objects::{
-    LONGER_RUN, LOWER_PRICES, Label, PinnedSection, is_anchor, say_load_address, say_more_sections,
-    say_nothing_moved, say_pinned,
+    LONGER_RUN, LOWER_PRICES, Label, PinnedSection, Stake, is_anchor, is_library, say_load_address,
+    say_more_sections, say_nothing_moved, say_pinned,
 };
 pub use pairing::{MixedParts, UNPAIRED_RUN, say_unpaired};
 pub use refusals::{explain_elf, explain_layout};

@@ -33,8 +33,17 @@ pub struct PinnedSection<'a> {
     pub is_zeros: bool,
     /// A label by which a relocation leads to one of them.
     pub label: Option<Label<'a>>,
-    /// How many thousandths of the measured run's energy its reads and writes would save in the scratchpad, where that is known.
-    pub at_stake: Option<u64>,
+    /// What its reads and writes would save in the scratchpad, where that is known.
+    pub at_stake: Option<Stake>,
+}
+
+/// What reads and writes would save in the scratchpad.
+#[derive(Clone, Copy)]
+pub struct Stake {
+    /// How many thousandths of the measured run's energy.
+    pub thousandths: u64,
+    /// From how many of the run's first steps it is reckoned, if not from all.
+    pub first_steps: Option<u64>,
 }
 
 /// What frees objects, by what the label begins with that pins them, or ends with.
@@ -176,14 +185,8 @@ fn say_label(notes: &mut Notes, section: &PinnedSection, label: &Label, sources:
         Piece::Name(label.name),
     ]);
     notes.end(", and so none may move");
-    if let Some(at_stake) = section.at_stake {
-        notes.say(&[
-            Piece::Text("  at stake is up to "),
-            Piece::Percent(at_stake),
-            Piece::Text(
-                " of the energy: what the reads and writes there would save in the scratchpad",
-            ),
-        ]);
+    if let Some(stake) = section.at_stake {
+        say_stake(notes, stake);
     }
     if is_anchor(label.name) {
         say_anchor_cure(notes, section.name, sources);
@@ -192,9 +195,30 @@ fn say_label(notes: &mut Notes, section: &PinnedSection, label: &Label, sources:
     notes.say_first(cure_of(section.name, label));
 }
 
+fn say_stake(notes: &mut Notes, stake: Stake) {
+    notes.begin("  at stake is up to ");
+    notes.put(&[
+        Piece::Percent(stake.thousandths),
+        Piece::Text(" of the energy: what the reads and writes there would save in the scratchpad"),
+    ]);
+    if let Some(steps) = stake.first_steps {
+        notes.put(&[
+            Piece::Text(", reckoned from the first "),
+            Piece::Number(steps),
+            Piece::Text(" steps"),
+        ]);
+    }
+    notes.end("");
+}
+
+/// Whether an output section has a library's objects alone, by its name.
+pub fn is_library(section: &[u8]) -> bool {
+    section.ends_with(LIBRARY)
+}
+
 /// What frees objects from anchors, and the sources that have these.
 fn say_anchor_cure(notes: &mut Notes, section: &[u8], sources: &[&[u8]]) {
-    if section.ends_with(LIBRARY) {
+    if is_library(section) {
         notes.say_first(
             "a library was compiled with anchors: objects of its own stay, and no others; no cure is needed",
         );

@@ -1,12 +1,12 @@
 use crate::census::{LabelUse, ObjectCensus, SectionObjects, census};
 use crate::choice::Chosen;
 use crate::names::{anchor_sources, name_at, symbol_name};
-use crate::stakes::stake_in;
+use crate::stakes::{SectionStake, stakes_in};
 use crate::subject::Subject;
 use elf_reader::{ElfView, SHT_NOBITS};
 use explanation_texts::{
-    LONGER_RUN, LOWER_PRICES, Label, Notes, PinnedSection, gives_key, is_anchor, say_more_sections,
-    say_nothing_moved, say_pinned,
+    LONGER_RUN, LOWER_PRICES, Label, Notes, PinnedSection, Stake, gives_key, is_anchor, is_library,
+    say_more_sections, say_nothing_moved, say_pinned,
 };
 use object_machine::Outcome;
 use std::alloc::{AllocError, Global};
@@ -140,16 +140,44 @@ fn say_largest(
 ) -> Result<(), AllocError> {
     let view = &subject.analysis.view;
     let is_swapped = is_anchored(view, pinned.get(1)) && !is_anchored(view, pinned.first());
+    let asked = curable_sections(subject.inputs.alloc, view, pinned)?;
+    let stakes = stakes_in(subject, chosen, &asked)?;
     for place in 0..TOLD_SECTIONS {
         let told = if is_swapped { 1 - place } else { place };
         if let Some(objects) = pinned.get(told) {
-            say_section(notes, subject, chosen, objects)?;
+            say_section(notes, subject, &stakes, objects)?;
         }
     }
     if pinned.len() > TOLD_SECTIONS {
         say_more_sections(notes, pinned.len().saturating_sub(TOLD_SECTIONS) as u64);
     }
     Ok(())
+}
+
+/// The numbers of those of the told sections that an anchor pins, and whose objects the user can free.
+fn curable_sections(
+    alloc: Global,
+    view: &ElfView,
+    pinned: &[PinnedObjects],
+) -> Result<Vec<usize>, AllocError> {
+    let mut sections = Vec::new(alloc);
+    for objects in pinned.iter().take(TOLD_SECTIONS) {
+        if is_curable(view, objects) {
+            sections.push(objects.section)?;
+        }
+    }
+    Ok(sections)
+}
+
+/// Whether an anchor pins objects of a section that no library alone has.
+fn is_curable(view: &ElfView, objects: &PinnedObjects) -> bool {
+    match objects.label {
+        Some(label) => {
+            is_anchor(symbol_name(view, label.symbol))
+                && !is_library(section_name(view, objects.section))
+        }
+        None => false,
+    }
 }
 
 /// Whether an anchor alone pins the objects of a section.
@@ -166,12 +194,11 @@ fn is_anchored(view: &ElfView, objects: Option<&PinnedObjects>) -> bool {
     }
 }
 
-/// What is told of objects that stay. The time grows with the number of symbols, and at an anchor with the steps of the
-/// measured run, so it is asked only for those that are told of.
+/// What is told of objects that stay. The time grows with the number of symbols, so it is asked only for those that are told of.
 fn say_section(
     notes: &mut Notes,
     subject: &Subject,
-    chosen: Option<&Chosen>,
+    stakes: &[SectionStake],
     objects: &PinnedObjects,
 ) -> Result<(), AllocError> {
     let view = &subject.analysis.view;
@@ -184,19 +211,25 @@ fn say_section(
         }),
         None => None,
     };
-    let at_stake = match label {
-        Some(label) if is_anchor(label.name) => stake_in(subject, chosen, objects.section)?,
-        _ => None,
-    };
     let section = PinnedSection {
         name: section_name(view, objects.section),
         fixed: objects.fixed,
         is_zeros: objects.is_zeros,
         label,
-        at_stake,
+        at_stake: stake_at(stakes, objects.section),
     };
     say_pinned(notes, &section, &sources);
     Ok(())
+}
+
+/// What is at stake in a section, if that was asked for.
+fn stake_at(stakes: &[SectionStake], section: usize) -> Option<Stake> {
+    for found in stakes {
+        if found.section == section {
+            return Some(found.stake);
+        }
+    }
+    None
 }
 
 /// The name of the section at a place; empty where there is none.

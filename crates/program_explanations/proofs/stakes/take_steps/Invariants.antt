@@ -1,5 +1,5 @@
 use Rattle.flat_machine.specs.Known.{AreKnown}
-use Rattle.program_explanations.proofs.stakes.accesses_in.Given as goal
+use Rattle.program_explanations.proofs.stakes.take_steps.Given as goal
 
 -- the table is right
 abbrev pub invariant-loop : goal.invariant-loop
