@@ -63,11 +63,11 @@ fn mixed_result<'a>(
             let second = Output::new(alloc, 4, out, mixed.file)?;
             let chosen = Some(mixed.chosen);
             let report = mixed.report;
-            let made = PreparedResult::written_twice(alloc, first, second, report, None, chosen)?;
-            Ok(PreparedResult {
-                opened: Some(mixed.opened),
-                ..made
-            })
+            let mut made = PreparedResult::written_twice(
+                alloc, first, second, report, None, chosen,
+            )?;
+            made.opened = Some(mixed.opened);
+            Ok(made)
         }
         Err(fault) => Err(fault),
     }
@@ -118,11 +118,9 @@ fn checked_result<'a>(
         Ok(checked) => {
             let text = Text::plain(checked.report.into_bytes());
             let chosen = Some(checked.chosen);
-            let made = PreparedResult::printed(alloc, text, None, chosen)?;
-            Ok(PreparedResult {
-                opened: Some(checked.opened),
-                ..made
-            })
+            let mut made = PreparedResult::printed(alloc, text, None, chosen)?;
+            made.opened = Some(checked.opened);
+            Ok(made)
         }
         Err(fault) => Err(fault),
     }

@@ -132,11 +132,11 @@ fn prepare_relink<'a>(
             let end = Some(relinked.end);
             let chosen = Some(relinked.chosen);
             let report = relinked.report;
-            let made = PreparedResult::written_twice(alloc, first, second, report, end, chosen)?;
-            Ok(PreparedResult {
-                opened: Some(relinked.opened),
-                ..made
-            })
+            let mut made = PreparedResult::written_twice(
+                alloc, first, second, report, end, chosen,
+            )?;
+            made.opened = Some(relinked.opened);
+            Ok(made)
         }
         Err(fault) => Err(fault),
     }
@@ -156,11 +156,9 @@ fn prepare_profile<'a>(
     match profile_file(alloc, &texts[0], &texts[1], &texts[2], progress) {
         Ok(profiled) => {
             let end = Some(profiled.end);
-            let made = PreparedResult::printed(alloc, profiled.text, end, None)?;
-            Ok(PreparedResult {
-                opened: Some(profiled.opened),
-                ..made
-            })
+            let mut made = PreparedResult::printed(alloc, profiled.text, end, None)?;
+            made.opened = Some(profiled.opened);
+            Ok(made)
         }
         Err(fault) => Err(fault),
     }
@@ -178,11 +176,9 @@ fn prepare_compare<'a>(
 {
     match compare_files(alloc, &texts[0], &texts[1], &texts[2], &texts[3]) {
         Ok(compared) => {
-            let made = PreparedResult::printed(alloc, Text::plain(compared.text), None, None)?;
-            Ok(PreparedResult {
-                opened: Some(compared.opened),
-                ..made
-            })
+            let mut made = PreparedResult::printed(alloc, Text::plain(compared.text), None, None)?;
+            made.opened = Some(compared.opened);
+            Ok(made)
         }
         Err(fault) => Err(fault),
     }
@@ -203,11 +199,9 @@ fn prepare_check<'a>(
         Ok(checked) => {
             let text = Text::plain(checked.report.into_bytes());
             let chosen = Some(checked.chosen);
-            let made = PreparedResult::printed(alloc, text, Some(checked.end), chosen)?;
-            Ok(PreparedResult {
-                opened: Some(checked.opened),
-                ..made
-            })
+            let mut made = PreparedResult::printed(alloc, text, Some(checked.end), chosen)?;
+            made.opened = Some(checked.opened);
+            Ok(made)
         }
         Err(fault) => Err(fault),
     }
@@ -226,11 +220,9 @@ fn prepare_paid<'a>(
 {
     match paid_file(alloc, &texts[0], &texts[1], &texts[2], &texts[3], progress) {
         Ok(paid) => {
-            let made = PreparedResult::printed(alloc, paid.text, Some(paid.end), None)?;
-            Ok(PreparedResult {
-                opened: Some(paid.opened),
-                ..made
-            })
+            let mut made = PreparedResult::printed(alloc, paid.text, Some(paid.end), None)?;
+            made.opened = Some(paid.opened);
+            Ok(made)
         }
         Err(fault) => Err(fault),
     }
@@ -252,11 +244,9 @@ fn prepare_trace<'a>(
         Ok(traced) => {
             let line = traced.line.into_bytes();
             let end = Some(traced.end);
-            let made = PreparedResult::written(alloc, 6, out, traced.text, line, end)?;
-            Ok(PreparedResult {
-                opened: Some(traced.opened),
-                ..made
-            })
+            let mut made = PreparedResult::written(alloc, 6, out, traced.text, line, end)?;
+            made.opened = Some(traced.opened);
+            Ok(made)
         }
         Err(fault) => Err(fault),
     }
@@ -271,11 +261,9 @@ fn prepare_show<'a>(alloc: Global, texts: &'a [Vec<u8>]) -> Result<PreparedResul
 {
     match show_file(alloc, &texts[0], &texts[1]) {
         Ok(shown) => {
-            let made = PreparedResult::printed(alloc, shown.text, None, None)?;
-            Ok(PreparedResult {
-                opened: Some(shown.opened),
-                ..made
-            })
+            let mut made = PreparedResult::printed(alloc, shown.text, None, None)?;
+            made.opened = Some(shown.opened);
+            Ok(made)
         }
         Err(fault) => Err(fault),
     }
