@@ -146,16 +146,3 @@ pub fit_below : (count : ℕ) (u : Prepared) → is_fit count u ≡ true → u.a
 fit_below count u fit =
     let below = (both (fits_read u.instr && fits_pair u.at u.pair && fits_site count u.site) (nat_lt (u.at + 4) 4294967296) fit).1 in
     grind (arith, nat_tests, below)
-
--- registers of zeros
-pub zeros_of_graph : (g : Graph) (n : ℕ) → All (IsOfGraph g) (replicate n (Int 0))
-zeros_of_graph g zero = All-nil (IsOfGraph g)
-zeros_of_graph g (suc n) = All-cons (IsOfGraph g) (Int 0) (replicate n (Int 0)) tt (zeros_of_graph g n)
-
-all_zero : (n k : ℕ) → slice_index_or (replicate n (Int 0)) k (Int 0) ≡ Int 0
-all_zero zero k = refl
-all_zero (suc n) zero = refl
-all_zero (suc n) (suc k) = all_zero n k
-
-pub zeros_read : (n : ℕ) → ◌≡◌ {A = ℕ → Val} (λ k. slice_index_or (replicate n (Int 0)) k (Int 0)) (λ _. Int 0)
-zeros_read n = λ z k. all_zero n k z

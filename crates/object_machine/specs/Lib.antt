@@ -2,6 +2,7 @@ pub use Rattle.rv32im.specs.Acts
 pub use Rattle.cell_values.specs.Objects
 pub mod Program
 pub mod State
+pub mod Registers
 pub mod Places
 pub mod Memory
 pub mod Flow

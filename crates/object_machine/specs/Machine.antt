@@ -1,5 +1,5 @@
 -- The state that a machine of the code stands for, and the program that it knows.
-use Rattle.std.specs.Prelude.{◌≡◌, ℕ, ◌+◌, ◌<◌, nat_lt, Bool, ◌||◌, if◌then◌else◌, List, drop, length, map, slice_index_or, is_some, Option, Some, None}
+use Rattle.std.specs.Prelude.{◌≡◌, ℕ, ◌+◌, ◌<◌, nat_lt, Bool, ◌||◌, if◌then◌else◌, List, drop, length, map, is_some, Option, Some, None}
 use Rattle.std.specs.List.{list_any}
 use Rattle.rv32im.specs.declared.instructions.Instr.{Instr}
 use Rattle.code_blocks.specs.Early.{has}
@@ -19,6 +19,7 @@ use Rattle.object_machine.specs.declared.tables.Tables.{Tables}
 use Rattle.object_machine.specs.declared.machine.Source.{Source}
 use Rattle.object_machine.specs.Program.{Program, holds}
 use Rattle.object_machine.specs.State.{SourceState, wrote}
+use Rattle.object_machine.specs.Registers.{registers_of}
 use Rattle.object_machine.specs.Memory.{stored_at}
 use Rattle.object_machine.specs.Places.{InFixed, InObject, byte_place, write_fault}
 use Rattle.object_machine.specs.Start.{where_memory}
@@ -35,7 +36,7 @@ abbrev pub pictured : (ℕ → Bool) → Objects → Source → SourceState
 pictured is_fixed os m =
     record {
       pc = m.pc;
-      regs = λ k. slice_index_or m.regs k (Int 0);
+      regs = registers_of m.regs;
       fixed = λ a. where_memory (is_fixed a) (cells_of m.memory a);
       cells = λ o i. where_memory (nat_lt i (os.size o)) (cells_of m.memory (os.home o + i));
       input = drop m.consumed m.input.items;

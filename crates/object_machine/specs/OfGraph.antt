@@ -1,6 +1,5 @@
 -- Values and cells that name objects of a graph alone: that they do has at most one proof.
-use Rattle.std.specs.Prelude.{◌≡◌, ℕ, ◌<◌, List, length, slice_index_or}
-use Rattle.std.specs.List.{All}
+use Rattle.std.specs.Prelude.{◌≡◌, ℕ, ◌<◌, length}
 use Rattle.std.specs.Coded.{Unit-prop, le_prop}
 use Rattle.object_graph.specs.declared.parts.Graph.{Graph}
 use Rattle.cell_values.specs.declared.values.Val.{Val}
@@ -23,8 +22,8 @@ cell_prop g (Byte b) = Unit-prop
 cell_prop g (Part hi o d k) = le_prop
 cell_prop g Mist = Unit-prop
 
-pub values_prop : (g : Graph) (values : List Val) → IsProp (All (IsOfGraph g) values)
-values_prop g values = λ a b i k d below. value_prop g (slice_index_or values k d) (a k d below) (b k d below) i
+pub values_prop : (g : Graph) (values : ℕ → Val) → IsProp ((k : ℕ) → IsOfGraph g (values k))
+values_prop g values = λ a b i k. value_prop g (values k) (a k) (b k) i
 
 pub cells_prop : (g : Graph) (table : ℕ → Cell) → IsProp ((a : ℕ) → IsCellOfGraph g (table a))
 cells_prop g table = λ a b i k. cell_prop g (table k) (a k) (b k) i

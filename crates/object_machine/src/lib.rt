@@ -11,6 +11,7 @@ mod naming;
 mod numbering;
 mod op;
 mod preparing;
+mod register_file;
 mod spots;
 mod starting;
 mod tables;

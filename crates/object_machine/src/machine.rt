@@ -1,7 +1,6 @@
 ghost use Rattle.std.specs.Prelude.{◌≡◌, ◌+◌, ◌<◌, ◌≤◌, ℕ, length};
-ghost use Rattle.std.specs.List.{All};
 ghost use Rattle.cell_values.specs.{Objects.{IsOfGraph}, Cells.{IsCellOfGraph}, Stored.{cells_of}};
-ghost use Rattle.object_machine.specs.{Units.{unit_in}, OfGraph.{values_prop, cells_prop}};
+ghost use Rattle.object_machine.specs.{Units.{unit_in}, Registers.{registers_of}, OfGraph.{values_prop, cells_prop}};
 
 mod calling;
 mod loading;
@@ -14,12 +13,13 @@ mod storing;
 
 use crate::events::{Access, Event, Outcome};
 use crate::footprints::Footprint;
+use crate::register_file::RegisterFile;
 use crate::starting::first_memory;
 use crate::tables::Tables;
 use crate::tabling::tables_of;
 use crate::units::Prepared;
 use board_config::Board;
-use cell_values::{CellStore, Val};
+use cell_values::CellStore;
 use code_blocks::Code;
 use elf_reader::ElfView;
 use object_graph::Graph;
@@ -34,16 +34,18 @@ pub struct Source {
     // the place of the next unit
     pub(crate) place: usize,
     pub(crate) pc: u32,
-    pub(crate) regs: [Val; 32],
+    pub(crate) regs: RegisterFile,
     pub(crate) input: Vec<u8>,
     // how many bytes of the input were read
     pub(crate) consumed: usize,
     pub(crate) output: Vec<u8>,
     pub(crate) outcome: Outcome,
+    // the access of the last step of a unit without a name
+    pub(crate) other_access: Option<Access>,
     ghost inside: { place < length tables.units.items },
     ghost at: { (unit_in tables.units.items place).at ≡ pc },
     ghost below: { pc + 4 < 4294967296 },
-    ghost values: { All (IsOfGraph tables.graph) regs } by { values_prop tables.graph regs },
+    ghost values: { (k : ℕ) → IsOfGraph tables.graph (registers_of regs k) } by { values_prop tables.graph (registers_of regs) },
     ghost cells: { (a : ℕ) → IsCellOfGraph tables.graph (cells_of memory a) } by { cells_prop tables.graph (cells_of memory) },
     ghost consumed_of_input: { consumed ≤ length input.items },
 }
@@ -87,11 +89,12 @@ impl Source {
             memory,
             place,
             pc: view.entry,
-            regs: [Val::Int(0); 32],
+            regs: RegisterFile::new(),
             input: Vec::from_slice(alloc, input)?,
             consumed: 0,
             output: Vec::new(alloc),
             outcome: Outcome::GoesOn,
+            other_access: None,
         })
     }
 }
@@ -133,18 +136,45 @@ impl Source {
         }
     }
 
+    /// Takes one step of a machine that goes on, as `step_in` does.
+    #[inline(always)]
+    pub fn step_going<const LOOP: u8>(&mut self) -> Result<Event, AllocError>
+        requires going { self.old.outcome ≡ Outcome.GoesOn }
+        ensures step { IfOk result (λ event. (p : Program) → IsProgram p self.old → IsProgram p self.new × Step p (state_of p self.old) event (state_of p self.new)) }
+        ensures err { OnErr result ((p : Program) → IsProgram p self.old → IsProgram p self.new × (state_of p self.new ≡ state_of p self.old)) }
+    {
+        match self.step_on::<LOOP>() {
+            Ok(event) => Ok(event),
+            Err(error) => Err(error),
+        }
+    }
+
     /// Takes one step, as the tables tell it.
     #[inline(always)]
-    #[tactic(auto, using(crate::proofs::NamedLemmas::steps_by_name, crate::proofs::NamedLemmas::steps_still, crate::proofs::NamedLemmas::goes_still))]
     fn step_seen<const LOOP: u8>(&mut self) -> Result<Event, AllocError>
         ensures step { IfOk result (λ event. StepsFrom self.old.outcome self.old event (seen_state self.new)) }
         ensures tables { self.new.tables ≡ self.old.tables }
         ensures err { OnErr result (seen_state self.new ≡ seen_state self.old) }
     {
-        let at = self.pc;
         if self.has_ended() {
-            return Ok(self.event(at, None));
+            return Ok(self.event(self.pc, None));
         }
+        match self.step_on::<LOOP>() {
+            Ok(event) => Ok(event),
+            Err(error) => Err(error),
+        }
+    }
+
+    /// Takes one step of a machine that goes on, as the tables tell it.
+    #[inline(always)]
+    #[tactic(auto, using(crate::proofs::NamedLemmas::steps_by_name, crate::proofs::NamedLemmas::steps_still, crate::proofs::NamedLemmas::goes_still))]
+    fn step_on<const LOOP: u8>(&mut self) -> Result<Event, AllocError>
+        requires going { self.old.outcome ≡ Outcome.GoesOn }
+        ensures step { IfOk result (λ event. StepsFrom self.old.outcome self.old event (seen_state self.new)) }
+        ensures tables { self.new.tables ≡ self.old.tables }
+        ensures err { OnErr result (seen_state self.new ≡ seen_state self.old) }
+    {
+        let at = self.pc;
         let op = self.op();
         match self.perform_named::<LOOP>(op) {
             Some(access) => Ok(Event {
@@ -152,7 +182,7 @@ impl Source {
                 outcome: Outcome::GoesOn,
                 access,
             }),
-            None => match self.step_other() {
+            None => match self.step_unnamed() {
                 Ok(event) => Ok(event),
                 Err(error) => Err(error),
             },
@@ -160,18 +190,37 @@ impl Source {
     }
 
     /// Takes a step of any unit.
-    #[cold]
-    #[inline(never)]
-    fn step_other(&mut self) -> Result<Event, AllocError>
+    #[inline(always)]
+    fn step_unnamed(&mut self) -> Result<Event, AllocError>
         requires going { self.old.outcome ≡ Outcome.GoesOn }
         ensures step { IfOk result (λ event. StepsFrom self.old.outcome self.old event (seen_state self.new)) }
         ensures tables { self.new.tables ≡ self.old.tables }
         ensures err { OnErr result (seen_state self.new ≡ seen_state self.old) }
     {
         let at = self.pc;
+        match self.step_other() {
+            Ok(()) => Ok(Event {
+                at,
+                outcome: self.outcome,
+                access: self.other_access,
+            }),
+            Err(error) => Err(error),
+        }
+    }
+
+    /// The same. It leaves the access in the machine, since a caller would make room for one that is returned in each step.
+    #[cold]
+    #[inline(never)]
+    fn step_other(&mut self) -> Result<(), AllocError>
+        requires going { self.old.outcome ≡ Outcome.GoesOn }
+        ensures step { OnOk result (StepsFrom self.old.outcome self.old (record { at = self.old.pc; outcome = self.new.outcome; access = self.new.other_access }) (seen_state self.new)) }
+        ensures tables { self.new.tables ≡ self.old.tables }
+        ensures err { OnErr result (seen_state self.new ≡ seen_state self.old) }
+    {
         let unit = self.tables.units[self.place];
         let access = self.perform(&unit)?;
-        Ok(self.event(at, access))
+        self.other_access = self.told(access);
+        Ok(())
     }
 
     /// Takes `n` steps and tells what has become of the machine. Once it has ended, the steps that are left take
@@ -257,10 +306,18 @@ impl Source {
         Event {
             at,
             outcome: self.outcome,
-            access: match self.outcome {
-                Outcome::GoesOn => access,
-                _ => None,
-            },
+            access: self.told(access),
+        }
+    }
+
+    /// The access that a step tells of.
+    #[inline(always)]
+    fn told(&self, access: Option<Access>) -> Option<Access>
+        ensures { result ≡ when_going self.now.outcome access }
+    {
+        match self.outcome {
+            Outcome::GoesOn => access,
+            _ => None,
         }
     }
 }

@@ -31,9 +31,10 @@ pub(crate) struct Tables {
     pub(crate) first: u64,
     pub(crate) landings: Vec<usize>,
     pub(crate) reached_landings: Vec<usize>,
-    /// Memory that stays as it is, ascending, and the widest range of it, where the stack mostly is.
+    /// Memory that stays as it is, ascending, and the two widest ranges of it, where the stack and the heap mostly are.
     pub(crate) fixed: Vec<Range>,
     pub(crate) widest: Range,
+    pub(crate) second: Range,
     pub(crate) ghost grain: { is_grain graph.grain ≡ true },
     pub(crate) ghost below: { EndBelow graph },
     pub(crate) ghost disjoint: { HasDisjointObjects graph },
@@ -50,6 +51,7 @@ pub(crate) struct Tables {
     pub(crate) ghost landed: { AreLandings units.items starts.items landings.items },
     pub(crate) ghost reached_landed: { AreLandings units.items reached.items reached_landings.items },
     pub(crate) ghost wide: { (a : ℕ) → in_range widest a ≡ true → list_any (λ r. in_range r a) fixed.items ≡ true },
+    pub(crate) ghost next_wide: { (a : ℕ) → in_range second a ≡ true → list_any (λ r. in_range r a) fixed.items ≡ true },
 }
 
 impl Tables {
@@ -75,13 +77,13 @@ impl Tables {
         lies_in_some(&self.fixed, address)
     }
 
-    /// Whether the `n` bytes from an address on lie in the widest range of fixed memory.
+    /// Whether the `n` bytes from an address on lie in one of the two widest ranges of fixed memory.
     #[inline(always)]
     pub(crate) fn is_wide(&self, at: u32, n: u32) -> bool
         requires { at + n ≤ 4294967296 }
         ensures { IsTrue result → (i : ℕ) → i < n → is_in_some self.now.fixed.items (at + i) ≡ true }
     {
-        holds(self.widest, at, n)
+        holds(self.widest, at, n) || holds(self.second, at, n)
     }
 
     /// Whether the `n` bytes from an address on lie in one range of fixed memory, by binary search.

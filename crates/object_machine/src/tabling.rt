@@ -12,7 +12,7 @@ use crate::naming::named_units;
 use crate::numbering::block_numbers;
 use crate::preparing::{lay_blocks, objects_alone, widened};
 use crate::tables::Tables;
-use crate::widest::widest_of;
+use crate::widest::widest_below;
 use board_config::Board;
 use code_blocks::Code;
 use elf_reader::ElfView;
@@ -49,11 +49,14 @@ pub(crate) fn tables_of(
         &landings,
         first_start(&block_units.starts),
     )?;
+    let widest = widest_below(&fixed, u32::MAX);
+    let second = widest_below(&fixed, widest.size);
     let reached_landings = reached_landings(alloc, &block_units, &landings, &reached)?;
     Ok(Tables {
         graph: objects,
         first: first_start(&block_units.starts),
-        widest: widest_of(&fixed),
+        widest,
+        second,
         landings,
         reached_landings,
         units: block_units.units,

@@ -52,7 +52,9 @@ pub fn profile(
     let blocks = parts.code.blocks.len();
     let objects = parts.graph.objects.len();
     let mut tally = nothing_counted(alloc, blocks, objects, parts.regions.count, first)?;
-    take_steps(&mut tally, source, parts, first, n, progress)?;
+    let (steps, units) = take_blocks(&mut tally, source, parts, first, n, progress)?;
+    tally.steps = steps;
+    tally.units = units as u32;
     if let Some(fault) = fault_of(&source.outcome()) {
         return Err(fault);
     }
@@ -81,31 +83,8 @@ fn first_block(code: &Code, address: u32) -> u32
     block_at(code, address).unwrap()
 }
 
-/// Takes `n` steps, or fewer where the machine ends, and counts them. The first unit is of block `first`.
-fn take_steps(
-    tally: &mut Tally,
-    source: &mut Source,
-    parts: &Parts<'_>,
-    first: u32,
-    n: u64,
-    progress: &dyn Progress,
-) -> Result<(), AllocError>
-    requires machine { IsMachineOf (starts_of parts.now.code.now) source.old }
-    requires regions { length parts.now.regions.now.of_block.items ≡ length parts.now.code.now.blocks.items }
-    requires begins { (p : Program) → IsProgram p source.old → IsBlockAt (starts_of parts.now.code.now) (state_of p source.old).pc (Some first) }
-    requires going { (p : Program) → (state_of p source.old).outcome ≡ Outcome.GoesOn }
-    requires nothing { (size : ℕ) × IsNew (length parts.now.code.now.blocks.items) size parts.now.regions.now.count first tally.old }
-    ensures program { OnOk result ((p : Program) → IsProgram p source.old → IsProgram p source.new) }
-    ensures run { OnOk result ((p : Program) (size : ℕ) → IsProgram p source.old → IsNew (length parts.now.code.now.blocks.items) size parts.now.regions.now.count first tally.old → IsAll (starts_of parts.now.code.now) parts.now.regions.now.of_block.items parts.now.regions.now.count size p (state_of p source.old) (state_of p source.new) n tally.new) }
-{
-    let (steps, units) = take_blocks(tally, source, parts, first, n, progress)?;
-    tally.steps = steps;
-    tally.units = units as u32;
-    Ok(())
-}
-
-/// Takes these steps. Tells how many it took, and how many of them since the last block began; the counters of `tally` have
-/// all else.
+/// Takes `n` steps, or fewer where the machine ends, and counts them. The first unit is of block `first`. Tells how many it took,
+/// and how many of them since the last block began; the counters of `tally` have all else.
 fn take_blocks(
     tally: &mut Tally,
     source: &mut Source,
@@ -199,10 +178,11 @@ fn take_units(
 /// whether the next unit is of the same block.
 #[inline(always)]
 fn take_unit(tally: &mut Tally, source: &mut Source) -> Result<(Option<u32>, bool), AllocError>
-    requires { HasRoomToAccess tally.old.region (plain_rows tally.old.reads.items) (plain_rows tally.old.writes.items) }
+    requires going { (p : Program) → (state_of p source.old).outcome ≡ Outcome.GoesOn }
+    requires room { HasRoomToAccess tally.old.region (plain_rows tally.old.reads.items) (plain_rows tally.old.writes.items) }
     ensures { IfOk result (λ r. (p : Program) (starts : List ℕ) → IsProgram p source.old → IsStrictlyIncreasing starts → ((a : ℕ) → p.is_block a ≡ has starts a) → IsTaken starts p source.old source.new r.0 r.1 tally.old tally.new) }
 {
-    let event = source.step_in::<1>()?;
+    let event = source.step_going::<1>()?;
     // an ended machine told of no access, which is known before that is asked for
     if !is_going(&event.outcome) {
         tally.access(event.access);

@@ -12,30 +12,9 @@ impl Source {
     ghost use Rattle.cell_values.specs.{Objects.{IsOfGraph}, Cells.{IsCellOfGraph}, Marks.{half_of_cells}};
     ghost use Rattle.object_machine.specs.{Memory.{cell_at, loaded_value}, Places.{read_fault}, Step.{loads_from, acts, access_by}, Spots.{where_of, HasByte, Spans}, Machine.{seen, seen_state, Becomes}};
 
-    // A kind is told apart before the access, so that its width is known where the access is inlined.
-
     /// A load. Tells of its access.
     #[inline(always)]
     pub(super) fn load(&mut self, kind: LoadKind, rd: u8, rs1: u8, imm: i32) -> Option<Access>
-        requires rd { rd < 32 }
-        requires rs1 { rs1 < 32 }
-        ensures state { let p = seen self.old in
-            let s = seen_state self.old in
-            Becomes self.old self.new (acts p s (Instr.Load kind rd rs1 imm) (p.site s.pc)) }
-        ensures access { result ≡ access_by (seen self.old) (seen_state self.old) (Some (Instr.Load kind rd rs1 imm)) }
-    {
-        match kind {
-            LoadKind::Lb => self.load_of(LoadKind::Lb, rd, rs1, imm),
-            LoadKind::Lbu => self.load_of(LoadKind::Lbu, rd, rs1, imm),
-            LoadKind::Lh => self.load_of(LoadKind::Lh, rd, rs1, imm),
-            LoadKind::Lhu => self.load_of(LoadKind::Lhu, rd, rs1, imm),
-            LoadKind::Lw => self.load_of(LoadKind::Lw, rd, rs1, imm),
-        }
-    }
-
-    /// A load of a kind. Tells of its access.
-    #[inline(always)]
-    fn load_of(&mut self, kind: LoadKind, rd: u8, rs1: u8, imm: i32) -> Option<Access>
         requires rd { rd < 32 }
         requires rs1 { rs1 < 32 }
         ensures state { let p = seen self.old in

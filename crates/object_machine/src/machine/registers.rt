@@ -13,11 +13,7 @@ impl Source {
         ensures value { result ≡ value (seen_state self.now).regs k }
         ensures of { IsOfGraph self.now.tables.graph result }
     {
-        if k == 0 {
-            Val::Int(0)
-        } else {
-            self.regs[usize::from(k)]
-        }
+        self.regs.get(k)
     }
 
     /// Puts a value into a register.
@@ -28,8 +24,6 @@ impl Source {
         ensures state { Becomes self.old self.new (wrote (seen_state self.old) rd v) }
         ensures place { self.new.place ≡ self.old.place }
     {
-        if rd != 0 {
-            self.regs[usize::from(rd)] = v;
-        }
+        self.regs.set(rd, v);
     }
 }

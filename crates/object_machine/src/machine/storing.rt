@@ -14,35 +14,9 @@ impl Source {
     ghost use Rattle.cell_values.specs.{Objects.{IsOfGraph, object_of}, Cells.{IsCellOfGraph, split}};
     ghost use Rattle.object_machine.specs.{Memory.{stored_at, stored_cells}, Flow.{falls_on}, Places.{InFixed, InObject, write_fault}, Step.{stores_to, acts, access_by}, Spots.{where_of, IsWidth, HasByte, Spans}, Machine.{seen, seen_state, Becomes}};
 
-    // A kind is told apart before the access, as by loads.
-
     /// A store. Tells of its access.
     #[inline(always)]
     pub(super) fn store(
-        &mut self,
-        kind: StoreKind,
-        rs1: u8,
-        rs2: u8,
-        imm: i32,
-    ) -> Result<Option<Access>, AllocError>
-        requires rs1 { rs1 < 32 }
-        requires rs2 { rs2 < 32 }
-        ensures state { let p = seen self.old in
-            let s = seen_state self.old in
-            OnOk result (Becomes self.old self.new (acts p s (Instr.Store kind rs1 rs2 imm) (p.site s.pc))) }
-        ensures access { IfOk result (λ access. access ≡ access_by (seen self.old) (seen_state self.old) (Some (Instr.Store kind rs1 rs2 imm))) }
-        ensures err { OnErr result (Becomes self.old self.new (seen_state self.old)) }
-    {
-        match kind {
-            StoreKind::Sb => self.store_of(StoreKind::Sb, rs1, rs2, imm),
-            StoreKind::Sh => self.store_of(StoreKind::Sh, rs1, rs2, imm),
-            StoreKind::Sw => self.store_of(StoreKind::Sw, rs1, rs2, imm),
-        }
-    }
-
-    /// A store of a kind. Tells of its access.
-    #[inline(always)]
-    fn store_of(
         &mut self,
         kind: StoreKind,
         rs1: u8,

@@ -37,7 +37,8 @@ invariant_of-result c =
           (rw c.deref-2.ensures.value at c.in_ok-numbers.ensures));
       landed = c.in_ok-landings.ensures;
       reached_landed = c.in_ok-reached_landings.ensures;
-      wide = c.widest_of.ensures;
+      wide = c.widest_below-widest.ensures;
+      next_wide = c.widest_below-second.ensures;
     }
 
 pub returns-clause-program : goal.returns-clause-program

@@ -1,5 +1,5 @@
 use Rattle.std.proofs.Common.{◌∙◌, None, refl, sym, subst}
-use Rattle.object_machine.specs.Machine.{state_of}
+use Rattle.object_machine.specs.Machine.{state_of, seen}
 use Rattle.profile_runner.specs.Tallies.{IsNext}
 use Rattle.profile_runner.proofs.TakingLemmas.{none_of, some_of}
 use Rattle.profile_runner.proofs.running.take_unit.Goals as goal
@@ -13,7 +13,7 @@ returns-then-not-is_going c p starts is ascending same =
       event = c.in_ok-event.event;
       step = step.1;
       accessed = c.access.ensures;
-      next_is = subst (λ goes. IsNext starts goes (state_of p c.step_in.new.self).pc None) (sym ended) refl;
+      next_is = subst (λ goes. IsNext starts goes (state_of p c.step_going.new.self).pc None) (sym ended) refl;
       inside = λ stay. cc;
       ended = λ off none. ended;
     }
@@ -31,3 +31,6 @@ returns c p starts is ascending same =
       inside = λ stay. (none_of c.next_block-next.result c.is_none.result c.is_none.ensures stay, going);
       ended = λ off none. absurd (some_of c.next_block-next.result c.is_none.result c.is_none.ensures off none);
     }
+
+pub step_going-requires : goal.step_going-requires
+step_going-requires c = record { going = c.requires.going (seen c.args.source.now) }

@@ -2,8 +2,13 @@ use Rattle.std.proofs.Common.{◌≡◌, ◌+◌, ◌-◌, ◌<◌, suc, arith}
 use Rattle.profile_runner.proofs.TakingLemmas.{stands_as, begun_as, room_to_access, room_to_lead, unit_counted, unit_inside, next_begun, unit_goes, unit_led, unit_ended, units_short}
 use Rattle.profile_runner.proofs.running.take_units.Goals as goal
 
-pub take_unit-requires : goal.take_unit-requires
-take_unit-requires c =
+pub take_unit-requires-clause-going : goal.take_unit-requires-clause-going
+take_unit-requires-clause-going c p =
+    let (course, (i, may)) = c.requires in
+    c.loop-left.invariant.going course i may
+
+pub take_unit-requires-clause-room : goal.take_unit-requires-clause-room
+take_unit-requires-clause-room c =
     let (course, (i, may)) = c.requires in
     let l = c.loop-left in
     let few = may.few in

@@ -5,7 +5,8 @@ use Rattle.elf_reader.specs.Image.{image_of}
 use Rattle.object_graph.specs.declared.parts.DataWord.{DataWord}
 use Rattle.object_graph.specs.declared.parts.Object.{Object}
 use Rattle.cell_values.specs.Cells.{IsCellOfGraph}
-use Rattle.cell_values.specs.Objects.{object_of}
+use Rattle.cell_values.specs.Objects.{object_of, IsOfGraph}
+use Rattle.cell_values.specs.declared.values.Val.{Val}
 use Rattle.cell_values.specs.declared.values.Cell.{Cell}
 use Rattle.cell_values.specs.Stored.{cells_of}
 use Rattle.object_machine.specs.declared.events.Outcome.TheVariants.{GoesOn}
@@ -14,7 +15,7 @@ use Rattle.object_machine.specs.Program.{program_of}
 use Rattle.object_machine.specs.Units.{unit_in}
 use Rattle.object_machine.proofs.GraphLemmas.{word_named}
 use Rattle.object_machine.proofs.MemoryLemmas.{segments_short, words_short}
-use Rattle.object_machine.proofs.StartLemmas.{fit_below, first_of_graph, zeros_of_graph, zeros_read}
+use Rattle.object_machine.proofs.StartLemmas.{fit_below, first_of_graph}
 use Rattle.object_machine.proofs.machine.Source.new.Goals as goal
 
 pub first_memory-requires-clause-loadable : goal.first_memory-requires-clause-loadable
@@ -46,7 +47,7 @@ invariant_of-result c =
       inside = at.0;
       at = is_at;
       below = omega (arith, below, is_at);
-      values = zeros_of_graph t.graph 32;
+      values = λ k. subst (λ (regs : ℕ → Val). IsOfGraph t.graph (regs k)) (sym c.new.ensures) tt;
       cells = subst (λ (cells : ℕ → Cell). (a : ℕ) → IsCellOfGraph t.graph (cells a)) (sym memory) (first_of_graph t.graph image words named);
       consumed_of_input = omega arith;
     }
@@ -59,10 +60,10 @@ returns-clause-start c =
     let memory : cells_of c.in_ok-memory.memory ≡ first_cell (image_of v.segments) g.data_words.items = c.in_ok-memory.ensures ∙ (λ z. first_cell (image_of (map plain_segment (c.deref.ensures.value z))) (c.deref-2.ensures.value z)) in
     λ z. record {
       pc = c.args.view.now.entry;
-      regs = zeros_read 32 z;
+      regs = c.new.ensures z;
       fixed = λ a. where_memory (p.is_fixed a) (memory z a);
       cells = λ o i. where_memory (nat_lt i (object_of g o).size) (memory z ((object_of g o).home + i));
       input = c.in_ok-from_slice.ensures.items z;
-      output = c.new.ensures.items z;
+      output = c.new-2.ensures.items z;
       outcome = GoesOn;
     }

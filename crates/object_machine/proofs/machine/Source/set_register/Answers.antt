@@ -1,17 +1,19 @@
-use Rattle.std.proofs.Common.{refl, ap, arith}
-use Rattle.std.proofs.lemmas.List.Elements.{All-set}
+use Rattle.std.proofs.Common.{ℕ, refl, ap, sym, subst}
 use Rattle.cell_values.specs.Objects.{IsOfGraph}
 use Rattle.object_machine.specs.State.{Values}
+use Rattle.object_machine.specs.Registers.{registers_of}
 use Rattle.object_machine.specs.Machine.{seen_state}
-use Rattle.object_machine.proofs.RegisterLemmas.{regs_set}
+use Rattle.object_machine.proofs.RegisterLemmas.{write_of_graph}
 use Rattle.object_machine.proofs.machine.Source.set_register.Goals as goal
 
 pub invariant_of-self-clause-values : goal.invariant_of-self-clause-values
 invariant_of-self-clause-values c =
     let m = c.args.self.now in
-    All-set (IsOfGraph m.tables.graph) m.regs c.from.result c.args.v c.requires.of m.values
+    let g = m.tables.graph in
+    λ k. subst (λ (regs : Values). IsOfGraph g (regs k)) (sym c.set.ensures)
+    (write_of_graph g (registers_of m.regs) c.args.rd c.args.v c.requires.of m.values k)
 
-pub returns-then-rd-ne0-clause-state : goal.returns-then-rd-ne0-clause-state
-returns-then-rd-ne0-clause-state c =
+pub returns-clause-state : goal.returns-clause-state
+returns-clause-state c =
     let m = c.args.self.now in
-    (refl, ap (λ (regs : Values). record (seen_state m) { regs = regs }) (regs_set m.regs c.from.result c.args.rd c.args.v c.from.ensures c.if-rd-ne0.true (omega arith)))
+    (refl, ap (λ (regs : Values). record (seen_state m) { regs = regs }) c.set.ensures)

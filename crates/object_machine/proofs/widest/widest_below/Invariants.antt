@@ -1,7 +1,7 @@
 use Rattle.std.proofs.Common.{◌≡◌, ℕ, true}
 use Rattle.std.specs.List.{list_any}
 use Rattle.object_graph.specs.Sites.{in_range}
-use Rattle.object_machine.proofs.widest.widest_of.Given as goal
+use Rattle.object_machine.proofs.widest.widest_below.Given as goal
 
 -- what lies in the widest so far lies in some
 abbrev pub invariant-loop-k : goal.invariant-loop-k
