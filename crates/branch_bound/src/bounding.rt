@@ -2,21 +2,25 @@ use crate::columns::Column;
 use crate::guiding::{DualSolution, Guide, NodeBound};
 use crate::lagrangian::{BoundStatus, LagrangianDual};
 use crate::layout::Layout;
-use crate::live::LiveVars;
 use crate::node::Node;
-use crate::numbers::{copy_of, is_set, number_at, numbered, put, zeros};
-use crate::relaxation::LagrangianRelaxation;
+use crate::numbers::{add, copy_of, number_at, numbered, put};
 use certificate_checker::Fixing;
 use placement_programme::Side;
 use std::alloc::{AllocError, Global};
 
-/// The Lagrangian bound of a side, with what it keeps from node to node.
+/// A side whose gains are small enough for the bound, with what it keeps from node to node: the multipliers of the last
+/// node, from which the next one's begin, and room.
+#[derive(Drop)]
+struct BoundedSide {
+    layout: Layout,
+    dual_problem: LagrangianDual,
+}
+
+/// The Lagrangian bound of a side.
 #[derive(Drop)]
 pub(crate) struct DualBound {
     /// None where the side's gains are too large for it: then it bounds nothing.
-    layout: Option<Layout>,
-    /// The multipliers of the last node, from which the next one's begin, of each row up to the last knapsack row.
-    multipliers: Vec<u64>,
+    bounded: Option<BoundedSide>,
     /// What the first node's bound shows of the side, if it has been asked.
     first: Option<u128>,
 }
@@ -42,16 +46,19 @@ fn unscaled(side: &Side, layout: &Layout, value: u64) -> u128 {
     gains.saturating_sub(side.fixed)
 }
 
-/// The multipliers of the packing rows: what each adds to the reach.
+/// The multipliers of the packing rows: what the variables that end at each add to the reach.
 fn add_steps(multipliers: &mut [u64], layout: &Layout, dual_problem: &LagrangianDual) {
-    let (relaxation, live) = (&dual_problem.relaxation, &dual_problem.live);
-    let mut before = relaxation.held_before(layout, live, 0);
-    for row in 0..layout.rows.numbers.len() {
-        let behind = relaxation.held_before(layout, live, row.saturating_add(1));
-        if !is_set(&layout.rows.is_knapsack, row) {
-            put(multipliers, row, behind.saturating_sub(before));
+    let mut before: u64 = 0;
+    for (place, var) in dual_problem.live.tied().iter().enumerate() {
+        let held = dual_problem.relaxation.held(place.saturating_add(1));
+        if held > before {
+            add(
+                multipliers,
+                layout.last_row(var.number),
+                held.saturating_sub(before),
+            );
         }
-        before = behind;
+        before = held;
     }
 }
 
@@ -63,15 +70,12 @@ fn bar(multipliers: &mut [u64], node: &Node, column: &Column, gain: u64) {
 }
 
 fn bar_all(multipliers: &mut [u64], layout: &Layout, dual_problem: &LagrangianDual) {
-    for number in 0..layout.columns.len() {
-        let column = &layout.columns[number];
-        if is_set(&dual_problem.node.free, number) && !is_set(&dual_problem.node.live, number) {
-            bar(
-                multipliers,
-                &dual_problem.node,
-                column,
-                column.reduced_gain(&dual_problem.multipliers),
-            );
+    for number in &dual_problem.node.barred {
+        if let Some(column) = layout.columns.get(*number as usize) {
+            let gain = column.reduced_gain(&dual_problem.multipliers);
+            if gain > 0 {
+                bar(multipliers, &dual_problem.node, column, gain);
+            }
         }
     }
 }
@@ -83,11 +87,9 @@ fn entries(
     multipliers: &[u64],
 ) -> Result<Vec<(u32, u64)>, AllocError> {
     let mut entries = Vec::new(alloc);
-    for place in 0..numbered(multipliers.len()) {
-        let multiplier = number_at(multipliers, place as usize);
-        match layout.rows.number_of(place) {
-            Some(number) if multiplier > 0 => entries.push((number, multiplier))?,
-            _ => {}
+    for (number, multiplier) in layout.rows.numbers.iter().zip(multipliers) {
+        if *multiplier > 0 {
+            entries.push((*number, *multiplier))?;
         }
     }
     Ok(entries)
@@ -112,18 +114,14 @@ fn dual_solution(
 fn branch_of(layout: &Layout, dual_problem: &LagrangianDual) -> Option<u32> {
     let mut branch = None;
     let mut least = u64::MAX;
-    for number in 0..numbered(layout.columns.len()) {
-        let place = number as usize;
-        if place >= layout.columns.len() || !is_set(&dual_problem.node.free, place) {
-            continue;
-        }
-        if !dual_problem.relaxation.is_split(place) {
-            continue;
-        }
-        let size = layout.columns[place].reduced_gain_size(&dual_problem.multipliers);
-        if size < least {
-            least = size;
-            branch = Some(number);
+    let split = &dual_problem.relaxation.split;
+    for (number, (column, is_split)) in layout.columns.iter().zip(split).enumerate() {
+        if *is_split {
+            let size = column.reduced_gain_size(&dual_problem.multipliers);
+            if size < least {
+                least = size;
+                branch = Some(numbered(number));
+            }
         }
     }
     branch
@@ -151,15 +149,15 @@ impl Guide for DualBound {
     ghost answers = { any_answer };
 
     fn of(alloc: Global, side: &Side) -> Result<DualBound, AllocError> {
-        let layout = Layout::of(alloc, side)?;
-        let rows = match &layout {
-            Some(layout) => layout.knapsack_end,
-            None => 0,
+        let bounded = match Layout::of(alloc, side)? {
+            Some(layout) => Some(BoundedSide {
+                dual_problem: LagrangianDual::new(alloc, &layout)?,
+                layout,
+            }),
+            None => None,
         };
-        let multipliers = zeros(alloc, rows)?;
         Ok(DualBound {
-            layout,
-            multipliers,
+            bounded,
             first: None,
         })
     }
@@ -171,29 +169,22 @@ impl Guide for DualBound {
         marks: &[Fixing],
         best: u128,
     ) -> Result<NodeBound, AllocError> {
-        let Some(layout) = &self.layout else {
+        let Some(bounded) = &mut self.bounded else {
             return Ok(nothing());
         };
+        let layout = &bounded.layout;
+        let dual_problem = &mut bounded.dual_problem;
         let target = scaled_target(side, layout, best);
-        let node = Node::of(alloc, layout, marks, target)?;
-        if let Some(place) = node.exceeded {
+        dual_problem.node.restart(layout, marks, target)?;
+        if let Some(place) = dual_problem.node.exceeded {
             let mut found = nothing();
             found.exceeded = layout.rows.number_of(place);
             return Ok(found);
         }
-        let live = LiveVars::of(alloc, layout, &node, &self.multipliers)?;
-        let relaxation = LagrangianRelaxation::new(alloc, layout, &live)?;
-        let mut dual_problem = LagrangianDual {
-            node,
-            live,
-            multipliers: copy_of(alloc, &self.multipliers)?,
-            relaxation,
-            candidate: None,
-        };
-        let found = bound_of(alloc, layout, &mut dual_problem)?;
+        dual_problem.restart(layout)?;
+        let found = bound_of(alloc, layout, dual_problem)?;
         let value = unscaled(side, layout, dual_problem.relaxation.value);
         self.first = self.first.or(Some(value));
-        self.multipliers = dual_problem.multipliers;
         Ok(found)
     }
 

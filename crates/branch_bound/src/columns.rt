@@ -61,14 +61,12 @@ impl Column {
         }
     }
 
-    /// Its weight in a knapsack row.
-    pub(crate) fn knapsack_weight(&self, row: u32) -> u64 {
-        for (number, weight) in &self.knapsack {
-            if *number == row {
-                return *weight;
-            }
+    /// Its last packing row, 0 where it has none.
+    pub(crate) fn last_row(&self) -> usize {
+        match self.span() {
+            Some(span) => span.last,
+            None => 0,
         }
-        0
     }
 
     /// What of the scaled gain is left behind the multiplied weights.

@@ -69,6 +69,9 @@ impl Completion {
 
     fn fill(&mut self, layout: &Layout, node: &Node) {
         for ranked in &layout.by_gain {
+            if !node.is_live(ranked.number) {
+                continue;
+            }
             if !has_room(&self.slack, &ranked.first) || !has_room(&self.slack, &ranked.last) {
                 continue;
             }
@@ -76,7 +79,7 @@ impl Completion {
             if place >= layout.columns.len() || is_set(&self.taken, place) {
                 continue;
             }
-            if is_set(&node.free, place) && self.has_room_for(&layout.columns[place]) {
+            if self.has_room_for(&layout.columns[place]) {
                 self.take(&layout.columns[place], place);
             }
         }

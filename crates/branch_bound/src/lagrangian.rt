@@ -2,7 +2,7 @@ use crate::completing::Completion;
 use crate::layout::Layout;
 use crate::live::LiveVars;
 use crate::node::Node;
-use crate::numbers::{number_at, put};
+use crate::numbers::{number_at, put, zeros};
 use crate::relaxation::LagrangianRelaxation;
 use std::alloc::{AllocError, Global};
 
@@ -133,6 +133,24 @@ pub(crate) struct LagrangianDual {
 }
 
 impl LagrangianDual {
+    /// Room for those of the nodes of a side.
+    pub(crate) fn new(alloc: Global, layout: &Layout) -> Result<LagrangianDual, AllocError> {
+        Ok(LagrangianDual {
+            node: Node::new(alloc, layout)?,
+            live: LiveVars::new(alloc, layout)?,
+            multipliers: zeros(alloc, layout.knapsack_end)?,
+            relaxation: LagrangianRelaxation::new(alloc, layout)?,
+            candidate: None,
+        })
+    }
+
+    /// Has the live variables of its node, and begins with the multipliers of the last one.
+    pub(crate) fn restart(&mut self, layout: &Layout) -> Result<(), AllocError> {
+        self.candidate = None;
+        self.relaxation.restart();
+        self.live.restart(layout, &self.node, &self.multipliers)
+    }
+
     /// Completes what the relaxation takes to a candidate where that gains more than the target, which it becomes. What
     /// was completed before would give the same again.
     fn complete(&mut self, alloc: Global, layout: &Layout) -> Result<(), AllocError> {
@@ -190,7 +208,7 @@ impl LagrangianDual {
         if bracket.next(layout.scale).is_none() {
             return Ok(BoundStatus::Undecided);
         }
-        self.live.seek(layout, &self.multipliers, number);
+        self.live.seek(layout, &self.multipliers, number)?;
         for _ in 0..TRIES {
             let Some(multiplier) = bracket.next(layout.scale) else {
                 break;

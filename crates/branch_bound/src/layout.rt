@@ -17,8 +17,18 @@ pub(crate) struct Ranked {
 #[derive(Clone, Copy, Drop)]
 pub(crate) struct Tied {
     pub number: u32,
+    pub gain: u64,
+    /// Its place among these.
+    pub place: usize,
     /// How many of these end before its first packing row.
     pub from: usize,
+}
+
+/// A variable without packing rows.
+#[derive(Clone, Copy, Drop)]
+pub(crate) struct Loose {
+    pub number: u32,
+    pub gain: u64,
 }
 
 /// What the bound reads of a side, made once.
@@ -34,20 +44,24 @@ pub(crate) struct Layout {
     pub knapsack_end: usize,
     /// The variables with packing rows, by their last ones and then by their numbers.
     pub tied: Vec<Tied>,
-    /// Of each row, and behind the last, how many of these end before it.
-    pub ended: Vec<u64>,
+    /// Of each row up to the last knapsack row the variables that weigh something in it, each with its weight; none where it
+    /// is a packing row.
+    by_row: Vec<Vec<(u32, u64)>>,
     /// The variables without packing rows.
-    pub loose: Vec<u32>,
+    pub loose: Vec<Loose>,
     /// The variables, the greatest gain first and the lowest number on a tie.
     pub by_gain: Vec<Ranked>,
 }
 
 /// The variables without packing rows.
-fn loose_of(alloc: Global, columns: &[Column]) -> Result<Vec<u32>, AllocError> {
+fn loose_of(alloc: Global, columns: &[Column]) -> Result<Vec<Loose>, AllocError> {
     let mut loose = Vec::new(alloc);
     for number in 0..columns.len() {
         if columns[number].span().is_none() {
-            loose.push(numbered(number))?;
+            loose.push(Loose {
+                number: numbered(number),
+                gain: columns[number].gain,
+            })?;
         }
     }
     Ok(loose)
@@ -84,13 +98,52 @@ fn tied_of(
     let mut tied = Vec::with_capacity(alloc, ends.len())?;
     for (_, number) in ends {
         if let Some(column) = columns.get(*number as usize) {
+            let place = tied.len();
             tied.push(Tied {
                 number: *number,
+                gain: column.gain,
+                place,
                 from: number_at(ended, column.first_row()) as usize,
             })?;
         }
     }
     Ok(tied)
+}
+
+/// Adds a variable to the knapsack rows in which it weighs something.
+fn push_weights(
+    by_row: &mut [Vec<(u32, u64)>],
+    column: &Column,
+    number: u32,
+) -> Result<(), AllocError> {
+    for (row, weight) in &column.knapsack {
+        let place = *row as usize;
+        if place < by_row.len() {
+            by_row[place].push((number, *weight))?;
+        }
+    }
+    Ok(())
+}
+
+fn no_entries(alloc: Global, rows: usize) -> Result<Vec<Vec<(u32, u64)>>, AllocError> {
+    let mut entries = Vec::with_capacity(alloc, rows)?;
+    for _ in 0..rows {
+        entries.push(Vec::new(alloc))?;
+    }
+    Ok(entries)
+}
+
+/// The weights in knapsack rows by rows, of which there are so many up to the last one.
+fn by_row_of(
+    alloc: Global,
+    columns: &[Column],
+    rows: usize,
+) -> Result<Vec<Vec<(u32, u64)>>, AllocError> {
+    let mut by_row = no_entries(alloc, rows)?;
+    for (number, column) in columns.iter().enumerate() {
+        push_weights(&mut by_row, column, numbered(number))?;
+    }
+    Ok(by_row)
 }
 
 /// The variables behind their scaled gains, the greatest gain first and the lowest number on a tie.
@@ -136,8 +189,8 @@ fn scaled_layout(alloc: Global, side: &Side, scale: u32) -> Result<Layout, Alloc
         scale,
         knapsack: flagged(alloc, &rows.is_knapsack)?,
         knapsack_end: rows.knapsack_end(),
+        by_row: by_row_of(alloc, &columns, rows.knapsack_end())?,
         tied: tied_of(alloc, &columns, &ends, &ended)?,
-        ended,
         loose: loose_of(alloc, &columns)?,
         by_gain: ranking_of(alloc, &columns)?,
         rows,
@@ -151,6 +204,22 @@ impl Layout {
         match self.knapsack.first() {
             Some(row) => *row,
             None => 0,
+        }
+    }
+
+    /// The last packing row of a variable, 0 where it has none.
+    pub(crate) fn last_row(&self, number: u32) -> usize {
+        match self.columns.get(number as usize) {
+            Some(column) => column.last_row(),
+            None => 0,
+        }
+    }
+
+    /// The variables that weigh something in a knapsack row, each with its weight.
+    pub(crate) fn weights_in(&self, row: u32) -> &[(u32, u64)] {
+        match self.by_row.get(row as usize) {
+            Some(entries) => entries,
+            None => &[],
         }
     }
 

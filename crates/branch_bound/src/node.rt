@@ -1,7 +1,7 @@
 use crate::columns::Column;
 use crate::layout::Layout;
-use crate::numbers::{first_numbers, is_set, number_at, put, set, unset, zeros};
-use certificate_checker::{Fixing, is_free, is_one};
+use crate::numbers::{first_numbers, is_set, number_at, numbered, put, set, unset, zeros};
+use certificate_checker::Fixing;
 use std::alloc::{AllocError, Global};
 
 /// What is left at a node of the search.
@@ -13,14 +13,14 @@ pub(crate) struct Node {
     full: Vec<bool>,
     /// Of each row the first one from it on that is full, past the last row where none is.
     next_full: Vec<u64>,
-    /// A row that they exceed.
+    /// A row that they exceed. Where there is one, nothing is said of the free variables.
     pub exceeded: Option<u32>,
     /// Whether a variable is fixed to one.
     pub ones: Vec<bool>,
-    /// Whether a variable is free.
-    pub free: Vec<bool>,
     /// Whether a variable is free and each of its packing rows has slack.
-    pub live: Vec<bool>,
+    live: Vec<bool>,
+    /// The variables that are free and have a packing row that is full.
+    pub barred: Vec<u32>,
     /// The scaled gains of the variables that are fixed to one.
     pub gained: u64,
     /// The scaled gains that are to be passed.
@@ -53,60 +53,89 @@ fn fix_to_one(node: &mut Node, column: &Column) {
     }
 }
 
-fn find_full(node: &mut Node) {
-    let mut next = node.full.len();
-    for row in (0..node.full.len()).rev() {
-        if is_set(&node.full, row) {
-            next = row;
+fn find_next_full(next_full: &mut [u64], full: &[bool]) {
+    let mut next = full.len() as u64;
+    for row in (0..full.len()).rev() {
+        if full[row] {
+            next = row as u64;
         }
-        put(&mut node.next_full, row, next as u64);
+        put(next_full, row, next);
     }
 }
 
-fn fix_all(node: &mut Node, layout: &Layout, marks: &[Fixing]) {
-    for number in 0..marks.len() {
-        if number < layout.columns.len() && is_one(marks, number) {
-            set(&mut node.ones, number);
-            fix_to_one(node, &layout.columns[number]);
-        }
-    }
-}
-
-fn mark_free(node: &mut Node, layout: &Layout, marks: &[Fixing]) {
-    for number in 0..marks.len() {
-        if number < layout.columns.len() && is_free(marks, number) {
-            set(&mut node.free, number);
-            if node.full_row(&layout.columns[number]).is_none() {
-                set(&mut node.live, number);
-            }
-        }
+fn restore_slack(slack: &mut [u64], capacities: &[u64]) {
+    for (left, capacity) in slack.iter_mut().zip(capacities) {
+        *left = *capacity;
     }
 }
 
 impl Node {
-    /// The node that fixes the variables so.
-    pub(crate) fn of(
-        alloc: Global,
+    /// Room for the nodes of a side.
+    pub(crate) fn new(alloc: Global, layout: &Layout) -> Result<Node, AllocError> {
+        let count = layout.columns.len();
+        let rows = layout.rows.numbers.len();
+        Ok(Node {
+            slack: first_numbers(alloc, &layout.rows.capacities, layout.knapsack_end)?,
+            full: unset(alloc, rows)?,
+            next_full: zeros(alloc, rows)?,
+            exceeded: None,
+            ones: unset(alloc, count)?,
+            live: unset(alloc, count)?,
+            barred: Vec::with_capacity(alloc, count)?,
+            gained: 0,
+            target: 0,
+        })
+    }
+
+    /// Has the node that fixes the variables so.
+    pub(crate) fn restart(
+        &mut self,
         layout: &Layout,
         marks: &[Fixing],
         target: u64,
-    ) -> Result<Node, AllocError> {
-        let count = layout.columns.len();
-        let mut node = Node {
-            slack: first_numbers(alloc, &layout.rows.capacities, layout.knapsack_end)?,
-            full: unset(alloc, layout.rows.numbers.len())?,
-            next_full: zeros(alloc, layout.rows.numbers.len())?,
-            exceeded: None,
-            ones: unset(alloc, count)?,
-            free: unset(alloc, count)?,
-            live: unset(alloc, count)?,
-            gained: 0,
-            target,
-        };
-        fix_all(&mut node, layout, marks);
-        find_full(&mut node);
-        mark_free(&mut node, layout, marks);
-        Ok(node)
+    ) -> Result<(), AllocError> {
+        self.target = target;
+        self.clear(layout);
+        self.fix_all(layout, marks);
+        if self.exceeded.is_some() {
+            return Ok(());
+        }
+        find_next_full(&mut self.next_full, &self.full);
+        self.mark_free(layout, marks)
+    }
+
+    /// Fixes nothing.
+    fn clear(&mut self, layout: &Layout) {
+        restore_slack(&mut self.slack, &layout.rows.capacities);
+        self.full.fill(false);
+        self.ones.fill(false);
+        self.live.fill(false);
+        self.barred.clear();
+        self.exceeded = None;
+        self.gained = 0;
+    }
+
+    fn fix_all(&mut self, layout: &Layout, marks: &[Fixing]) {
+        for (number, (column, fixing)) in layout.columns.iter().zip(marks).enumerate() {
+            if matches!(fixing, Fixing::One) {
+                set(&mut self.ones, number);
+                fix_to_one(self, column);
+            }
+        }
+    }
+
+    fn mark_free(&mut self, layout: &Layout, marks: &[Fixing]) -> Result<(), AllocError> {
+        for (number, (column, fixing)) in layout.columns.iter().zip(marks).enumerate() {
+            if !matches!(fixing, Fixing::Free) {
+                continue;
+            }
+            if self.full_row(column).is_some() {
+                self.barred.push(numbered(number))?;
+            } else {
+                set(&mut self.live, number);
+            }
+        }
+        Ok(())
     }
 
     /// The first packing row of a variable that is full.

@@ -1,12 +1,12 @@
 use crate::columns::Column;
 use crate::layout::Layout;
-use crate::live::LiveVars;
+use crate::live::{LiveVars, TrialVar};
 use crate::node::Node;
-use crate::numbers::{add, is_set, number_at, numbered, put, set, take_off, unset, zeros};
+use crate::numbers::{add, is_set, number_at, put, set, take_off, unset, zeros};
 use std::alloc::{AllocError, Global};
 use std::mem::replace;
 
-/// What some live variables with packing rows hold.
+/// What some variables with packing rows hold.
 #[derive(Clone, Copy, Drop)]
 struct Reach {
     /// What they hold at most.
@@ -31,6 +31,42 @@ fn no_reach(alloc: Global, count: usize) -> Result<Vec<Reach>, AllocError> {
     Ok(reach)
 }
 
+/// What variables with packing rows hold at most, up to each one and all together. Scaled gains are too small to wrap.
+fn settle(reach: &mut [Reach], vars: &[TrialVar], multiplier: u64) -> u64 {
+    let mut best = NO_REACH;
+    for (place, var) in vars.iter().enumerate() {
+        let count = place.wrapping_add(1);
+        let behind = reach_at(reach, var.from).held;
+        let with = behind.wrapping_add(var.reduced_gain(multiplier));
+        if with > best.held {
+            best = Reach {
+                held: with,
+                end: count,
+            };
+        }
+        if count < reach.len() {
+            reach[count] = best;
+        }
+    }
+    best.held
+}
+
+/// The variables with packing rows that hold the most together, from the last one back.
+fn chain(reach: &[Reach], vars: &[TrialVar], numbers: &mut Vec<u32>) -> Result<(), AllocError> {
+    numbers.clear();
+    let mut count = vars.len();
+    for _ in 0..vars.len() {
+        let end = reach_at(reach, count).end;
+        if end == 0 || end > vars.len() {
+            return Ok(());
+        }
+        let var = vars[end - 1];
+        numbers.push(var.number)?;
+        count = var.from;
+    }
+    Ok(())
+}
+
 /// What the free variables gain at most where the knapsack rows have multipliers in place of capacities.
 ///
 /// The packing rows are kept: where each variable takes neighbouring ones, as blocks of code and the
@@ -39,13 +75,13 @@ fn no_reach(alloc: Global, count: usize) -> Result<Vec<Reach>, AllocError> {
 pub(crate) struct LagrangianRelaxation {
     /// The bound on the scaled gains of the free variables.
     pub value: u64,
-    /// Of so many of the live variables with packing rows, the first ones by their last rows.
+    /// Of so many of the trial's variables with packing rows, the first ones by their last rows.
     reach: Vec<Reach>,
-    /// The places of the live variables with packing rows that it takes, the last one first.
+    /// The variables with packing rows that it takes, the last one first.
     chosen: Vec<u32>,
     /// Room for those of the next trial.
     spare: Vec<u32>,
-    /// For each of these the last trial that took it.
+    /// For each variable the last trial that took it for its packing rows.
     chosen_by: Vec<u64>,
     /// How many multipliers were tried at this node.
     trials: u64,
@@ -57,25 +93,21 @@ pub(crate) struct LagrangianRelaxation {
     /// Their scaled gains.
     pub gain: u64,
     /// Whether some multipliers that were tried at this node take a variable, and others don't.
-    split: Vec<bool>,
+    pub split: Vec<bool>,
     /// Whether it takes other variables than when it was completed last.
     pub has_changed: bool,
 }
 
 impl LagrangianRelaxation {
-    pub(crate) fn new(
-        alloc: Global,
-        layout: &Layout,
-        live: &LiveVars,
-    ) -> Result<LagrangianRelaxation, AllocError> {
+    /// Room for those of the nodes of a side.
+    pub(crate) fn new(alloc: Global, layout: &Layout) -> Result<LagrangianRelaxation, AllocError> {
         let vars = layout.columns.len();
-        let tied = live.tied.len();
         Ok(LagrangianRelaxation {
             value: u64::MAX,
-            reach: no_reach(alloc, tied.saturating_add(1))?,
+            reach: no_reach(alloc, layout.tied.len().saturating_add(1))?,
             chosen: Vec::new(alloc),
             spare: Vec::new(alloc),
-            chosen_by: zeros(alloc, tied)?,
+            chosen_by: zeros(alloc, vars)?,
             trials: 0,
             taken: unset(alloc, vars)?,
             load: zeros(alloc, layout.knapsack_end)?,
@@ -83,6 +115,19 @@ impl LagrangianRelaxation {
             split: unset(alloc, vars)?,
             has_changed: true,
         })
+    }
+
+    /// Takes nothing, at a node where nothing was tried yet.
+    pub(crate) fn restart(&mut self) {
+        self.value = u64::MAX;
+        self.chosen.clear();
+        self.chosen_by.fill(0);
+        self.trials = 0;
+        self.taken.fill(false);
+        self.load.fill(0);
+        self.gain = 0;
+        self.split.fill(false);
+        self.has_changed = true;
     }
 
     fn take(&mut self, column: &Column) {
@@ -118,26 +163,6 @@ impl LagrangianRelaxation {
         }
     }
 
-    /// What the variables with packing rows hold at most, up to each one.
-    fn settle(&mut self, live: &LiveVars, multiplier: u64) {
-        let mut best = NO_REACH;
-        for (place, var) in live.tied.iter().enumerate() {
-            let count = place.saturating_add(1);
-            let behind = reach_at(&self.reach, var.from as usize).held;
-            let with = behind.saturating_add(var.reduced_gain(multiplier));
-            if with > best.held {
-                best = Reach {
-                    held: with,
-                    end: count,
-                };
-            }
-            if count < self.reach.len() {
-                self.reach[count] = best;
-            }
-        }
-        self.value = self.value.saturating_add(best.held);
-    }
-
     fn choose_loose(&mut self, layout: &Layout, live: &LiveVars, multiplier: u64) {
         let mut gains: u64 = 0;
         for var in &live.loose {
@@ -151,39 +176,23 @@ impl LagrangianRelaxation {
         self.value = self.value.saturating_add(gains);
     }
 
-    /// The places of the variables with packing rows that hold the most together, from the last one back.
-    fn chain(&self, live: &LiveVars, places: &mut Vec<u32>) -> Result<(), AllocError> {
-        places.clear();
-        let mut count = live.tied.len();
-        for _ in 0..live.tied.len() {
-            let end = reach_at(&self.reach, count).end;
-            if end == 0 || end > live.tied.len() {
-                return Ok(());
-            }
-            places.push(numbered(end - 1))?;
-            count = live.tied[end - 1].from as usize;
-        }
-        Ok(())
-    }
-
     /// Takes variables with packing rows, where they aren't taken yet.
-    fn take_chosen(&mut self, layout: &Layout, live: &LiveVars, places: &[u32]) {
-        for place in places {
-            put(&mut self.chosen_by, *place as usize, self.trials);
-            match live.tied_number(*place) {
-                Some(number) if !is_set(&self.taken, number) => self.turn(layout, number),
-                _ => {}
+    fn take_chosen(&mut self, layout: &Layout, numbers: &[u32]) {
+        for number in numbers {
+            let place = *number as usize;
+            put(&mut self.chosen_by, place, self.trials);
+            if !is_set(&self.taken, place) {
+                self.turn(layout, place);
             }
         }
     }
 
     /// Drops those that are not taken any more.
-    fn drop_others(&mut self, layout: &Layout, live: &LiveVars, places: &[u32]) {
-        for place in places {
-            if number_at(&self.chosen_by, *place as usize) != self.trials {
-                if let Some(number) = live.tied_number(*place) {
-                    self.turn(layout, number);
-                }
+    fn drop_others(&mut self, layout: &Layout, numbers: &[u32]) {
+        for number in numbers {
+            let place = *number as usize;
+            if number_at(&self.chosen_by, place) != self.trials {
+                self.turn(layout, place);
             }
         }
     }
@@ -195,11 +204,11 @@ impl LagrangianRelaxation {
         layout: &Layout,
         live: &LiveVars,
     ) -> Result<(), AllocError> {
-        let mut places = replace(&mut self.spare, Vec::new(alloc));
-        self.chain(live, &mut places)?;
-        self.take_chosen(layout, live, &places);
-        let before = replace(&mut self.chosen, places);
-        self.drop_others(layout, live, &before);
+        let mut numbers = replace(&mut self.spare, Vec::new(alloc));
+        chain(&self.reach, live.tied(), &mut numbers)?;
+        self.take_chosen(layout, &numbers);
+        let before = replace(&mut self.chosen, numbers);
+        self.drop_others(layout, &before);
         self.spare = before;
         Ok(())
     }
@@ -226,12 +235,13 @@ impl LagrangianRelaxation {
         self.value = 0;
         self.add_slack_cost(layout, node, multipliers);
         self.choose_loose(layout, live, multiplier);
-        self.settle(live, multiplier);
+        let held = settle(&mut self.reach, live.tied(), multiplier);
+        self.value = self.value.saturating_add(held);
     }
 
-    /// What the rows before one hold at most.
-    pub(crate) fn held_before(&self, layout: &Layout, live: &LiveVars, row: usize) -> u64 {
-        reach_at(&self.reach, live.ended_before(layout, row)).held
+    /// What so many of the trial's variables with packing rows hold at most.
+    pub(crate) fn held(&self, count: usize) -> u64 {
+        reach_at(&self.reach, count).held
     }
 
     /// Whether what it takes stays within the slack of the knapsack rows.
@@ -243,10 +253,5 @@ impl LagrangianRelaxation {
             }
         }
         true
-    }
-
-    /// Whether some multipliers that were tried take a variable, and others don't.
-    pub(crate) fn is_split(&self, number: usize) -> bool {
-        is_set(&self.split, number)
     }
 }
