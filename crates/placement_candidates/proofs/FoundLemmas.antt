@@ -29,7 +29,7 @@ use Rattle.dataflow.specs.Overlaid.{is_border, IsHeldAtBorder, MayBeOverlaid, Ar
 use Rattle.dataflow.proofs.FactBounds.{of_register, of_block}
 use Rattle.dataflow.proofs.OverlaidLemmas.{words_escape}
 use Rattle.placement_candidates.specs.Overlaid.{Lives}
-use Rattle.placement_candidates.specs.Found.{AreLiveAtBorders, IsSited, IsFree, AreFree}
+use Rattle.placement_candidates.specs.Found.{AreLiveAtBorders, IsSited, AreSited, IsFree, AreFree}
 use Rattle.placement_candidates.proofs.SideLemmas.{AreNumbers, are_numbers}
 
 -- ---- registers that are live
@@ -110,6 +110,19 @@ free_more c g regions asked n marks mark told are =
             subst (λ (m : Bool). (m ≡ true) ↔ IsFree c g regions asked o) (sym (get_or_append_left marks (mark ∷ []) false o before)) (are.each o (omega (arith, below, other)))
       ];
     }
+
+-- where none is sited, none may be overlaid
+pub none_overlaid : (c : Code) (g : Graph) (regions : List ℕ) (borders marks : List Bool) → AreSited c g regions marks → ((o : ℕ) → o < length marks → mark_at marks o ≡ false) → AreOverlaid (Lives c) c g regions borders []
+none_overlaid c g regions borders marks are none = record {
+  ascending = λ k within. absurd (omega (arith, within));
+  each = λ k d below. absurd (omega (arith, below));
+  whole = λ o may.
+      let size = are.size in
+      let inside = may.moves in
+      let on = (are.each o may.moves).1 (record { has_site = may.has_site; in_regions = may.in_regions }) in
+      let off = none o (omega (arith, size, inside)) in
+      absurd cc;
+}
 
 -- one is sited and isn't exposed
 pub is_free : (c : Code) (g : Graph) (regions : List ℕ) (asked : List RegSet) (o : ℕ) (sited exposed : Bool) → (sited ≡ true) ↔ IsSited c g regions o → (exposed ≡ true) ↔ IsExposed c g asked o

@@ -1,4 +1,4 @@
-ghost use Rattle.std.specs.Prelude.{◌≡◌, ◌++◌, ◌∷◌, ℕ, not, ◌&&◌, [], List, length, if◌then◌else◌, IfOk, OnOk};
+ghost use Rattle.std.specs.Prelude.{◌≡◌, ◌<◌, ◌++◌, ◌∷◌, ℕ, false, not, ◌&&◌, [], List, length, if◌then◌else◌, IfOk, OnOk};
 ghost use Rattle.std.specs.List.Sorted.{IsStrictlyIncreasing};
 ghost use Rattle.list_checks.specs.Sorted.{collected};
 ghost use Rattle.rv32im.specs.declared.instructions.RegSet.{RegSet};
@@ -33,10 +33,26 @@ pub fn overlaid_objects(
     ensures { IfOk result (λ objects. AreOverlaidObjects code.now graph.now regions.now objects.items) }
 {
     let sited = sited_objects(alloc, code, graph, regions)?;
+    // where addresses may come is asked of all units, which a program without overlay need not pay for
+    if !has_marked(&sited) {
+        return Ok(Vec::new(alloc));
+    }
     let asked = registers_at_borders(alloc, code, live, regions)?;
     let exposed = exposed_objects(alloc, code, graph, &asked)?;
     let free = free_objects(alloc, &sited, &exposed)?;
     numbers_of(alloc, &free)
+}
+
+/// Whether something is marked.
+fn has_marked(marks: &[bool]) -> bool
+    ensures { result ≡ false → (o : ℕ) → o < length marks.now → mark_at marks.now o ≡ false }
+{
+    for object in 0..marks.len() {
+        if marks[object] {
+            return true;
+        }
+    }
+    false
 }
 
 /// Marks the objects that are sited and aren't exposed.
