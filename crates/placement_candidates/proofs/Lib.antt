@@ -21,6 +21,7 @@ pub mod SitedLemmas
 pub mod WholeChoices
 pub mod WholeLemmas
 pub mod SumLemmas
+pub mod TallyLemmas
 pub mod MixLemmas
 pub mod OneMoreLemmas
 pub mod RunLemmas

@@ -12,6 +12,7 @@ pub mod Ranking
 pub mod Found
 pub mod Overlaid
 pub mod OverlayCounted
+pub mod Tallies
 pub mod OverlayRows
 pub mod Whole
 pub mod Parts

@@ -25,6 +25,7 @@ mod region_sites;
 mod row_ranges;
 mod selecting;
 mod sums;
+mod tallies;
 mod variables;
 mod weight_rows;
 mod whole_side;

@@ -3,7 +3,7 @@ ghost use Rattle.std.specs.List.{All, filter};
 ghost use Rattle.cell_values.specs.Objects.{datum_of};
 ghost use Rattle.energy_model.specs.Counts.{AreBlockCounts};
 ghost use Rattle.placement_programme.specs.Rows.{static_data, static_code, overlay_data, overlay_code, kept_data, pairs_of};
-ghost use Rattle.placement_candidates.specs.{FullVars.{plain_full_var}, OverlayCounted.{scene_in, on_var, on_vars, piece_region, CanWeigh, CanWeighPiece, CanGain}, Stated.{part_of}, Overlaid.{static_objects, static_pieces, objects_in, pieces_in, objects_of_pair, overlaid_objects, overlaid_pieces, kept_objects}};
+ghost use Rattle.placement_candidates.specs.{FullVars.{plain_full_var}, OverlayCounted.{scene_in, on_var, on_vars, piece_region, CanWeigh, CanWeighPiece, CanGain}, Stated.{part_of}, Tallies.{IsTally, AreTallies}, Overlaid.{static_objects, static_pieces, objects_in, pieces_in, objects_of_pair, overlaid_objects, overlaid_pieces, kept_objects}};
 
 use crate::measured::Measured;
 use crate::overlay_gains::{
@@ -14,6 +14,7 @@ use crate::overlay_rows::{
     kept_data, overlay_code, overlay_data, static_code, static_data, weights_of,
 };
 use crate::piece_regions::piece_regions;
+use crate::tallies::{PieceTally, tallies};
 use crate::variables::FullVar;
 use block_splitter::Piece;
 use energy_model::BlockCounts;
@@ -45,13 +46,12 @@ fn push_static_data(vars: &mut Vec<FullVar>, m: &Measured<'_>, o: u32) -> Result
 fn push_static_code(
     vars: &mut Vec<FullVar>,
     m: &Measured<'_>,
-    counts: &BlockCounts,
+    tally: &PieceTally,
     piece: &Piece,
 ) -> Result<(), AllocError>
     requires weigh { CanWeigh m.now }
-    requires gain { CanGain m.now }
-    requires counts { AreBlockCounts m.now.code.now m.now.graph.now m.now.profile.now counts.now }
     requires piece { CanWeighPiece m.now piece.now }
+    requires tally { IsTally m.now piece.now tally.now }
     ensures { OnOk result (map plain_full_var vars.new.items ≡ map plain_full_var vars.old.items ++ on_var m.now (static_code (part_of (scene_in m.now) piece.now)) ∷ []) }
 {
     let rows = rows_of(m);
@@ -60,7 +60,7 @@ fn push_static_code(
     let weights = weights_of(&rows, &item);
     let var = FullVar {
         name: item.name,
-        gain: static_code_gain(m, counts, piece),
+        gain: static_code_gain(m, tally, piece),
         weights,
     };
     match vars.push(var) {
@@ -102,15 +102,15 @@ fn push_overlay_data(
 fn push_overlay_code(
     vars: &mut Vec<FullVar>,
     m: &Measured<'_>,
-    counts: &BlockCounts,
     r: u32,
+    tally: &PieceTally,
     piece: &Piece,
 ) -> Result<(), AllocError>
     requires weigh { CanWeigh m.now }
     requires gain { CanGain m.now }
-    requires counts { AreBlockCounts m.now.code.now m.now.graph.now m.now.profile.now counts.now }
     requires region { r ≤ m.now.regions.now.count }
     requires piece { CanWeighPiece m.now piece.now }
+    requires tally { IsTally m.now piece.now tally.now }
     ensures { OnOk result (map plain_full_var vars.new.items ≡ map plain_full_var vars.old.items ++ on_var m.now (overlay_code r (part_of (scene_in m.now) piece.now)) ∷ []) }
 {
     let rows = rows_of(m);
@@ -119,7 +119,7 @@ fn push_overlay_code(
     let weights = weights_of(&rows, &item);
     let var = FullVar {
         name: item.name,
-        gain: overlay_code_gain(m, counts, r, piece),
+        gain: overlay_code_gain(m, r, tally, piece),
         weights,
     };
     match vars.push(var) {
@@ -173,16 +173,17 @@ fn push_static_objects(vars: &mut Vec<FullVar>, m: &Measured<'_>) -> Result<(), 
 fn push_static_pieces(
     vars: &mut Vec<FullVar>,
     m: &Measured<'_>,
-    counts: &BlockCounts,
+    tallies: &[PieceTally],
 ) -> Result<(), AllocError>
     requires weigh { CanWeigh m.now }
-    requires gain { CanGain m.now }
-    requires counts { AreBlockCounts m.now.code.now m.now.graph.now m.now.profile.now counts.now }
+    requires size { length tallies.now ≡ length m.now.pieces.now }
+    requires tallies { AreTallies m.now (length m.now.pieces.now) tallies.now }
     requires pieces { All (CanWeighPiece m.now) m.now.pieces.now }
     ensures { OnOk result (map plain_full_var vars.new.items ≡ map plain_full_var vars.old.items ++ map (on_var m.now) (static_pieces (scene_in m.now) m.now.pieces.now)) }
 {
     for k in 0..m.pieces.len() {
-        push_static_code(vars, m, counts, &m.pieces[k])?;
+        let tally = &tallies[k];
+        push_static_code(vars, m, tally, &m.pieces[k])?;
     }
     Ok(())
 }
@@ -280,13 +281,14 @@ fn push_kept_objects(
 fn push_pieces_in(
     vars: &mut Vec<FullVar>,
     m: &Measured<'_>,
-    counts: &BlockCounts,
+    tallies: &[PieceTally],
     table: &[u32],
     r: u32,
 ) -> Result<(), AllocError>
     requires weigh { CanWeigh m.now }
     requires gain { CanGain m.now }
-    requires counts { AreBlockCounts m.now.code.now m.now.graph.now m.now.profile.now counts.now }
+    requires size { length tallies.now ≡ length m.now.pieces.now }
+    requires tallies { AreTallies m.now (length m.now.pieces.now) tallies.now }
     requires pieces { All (CanWeighPiece m.now) m.now.pieces.now }
     requires some { 1 ≤ r }
     requires region { r ≤ m.now.regions.now.count }
@@ -295,7 +297,8 @@ fn push_pieces_in(
 {
     for k in 0..m.pieces.len() {
         if table[k] == r {
-            push_overlay_code(vars, m, counts, r, &m.pieces[k])?;
+            let tally = &tallies[k];
+            push_overlay_code(vars, m, r, tally, &m.pieces[k])?;
         }
     }
     Ok(())
@@ -305,18 +308,19 @@ fn push_pieces_in(
 fn push_pieces_by(
     vars: &mut Vec<FullVar>,
     m: &Measured<'_>,
-    counts: &BlockCounts,
+    tallies: &[PieceTally],
     table: &[u32],
 ) -> Result<(), AllocError>
     requires weigh { CanWeigh m.now }
     requires gain { CanGain m.now }
-    requires counts { AreBlockCounts m.now.code.now m.now.graph.now m.now.profile.now counts.now }
+    requires size { length tallies.now ≡ length m.now.pieces.now }
+    requires tallies { AreTallies m.now (length m.now.pieces.now) tallies.now }
     requires pieces { All (CanWeighPiece m.now) m.now.pieces.now }
     requires table { table.now ≡ map (piece_region m.now.regions.now.of_block.items) m.now.pieces.now }
     ensures { OnOk result (map plain_full_var vars.new.items ≡ map plain_full_var vars.old.items ++ map (on_var m.now) (overlaid_pieces (scene_in m.now) m.now.pieces.now m.now.regions.now.count)) }
 {
     for before in 0..m.regions.count {
-        push_pieces_in(vars, m, counts, table, before + 1)?;
+        push_pieces_in(vars, m, tallies, table, before + 1)?;
     }
     Ok(())
 }
@@ -326,16 +330,17 @@ fn push_overlaid_pieces(
     alloc: Global,
     vars: &mut Vec<FullVar>,
     m: &Measured<'_>,
-    counts: &BlockCounts,
+    tallies: &[PieceTally],
 ) -> Result<(), AllocError>
     requires weigh { CanWeigh m.now }
     requires gain { CanGain m.now }
-    requires counts { AreBlockCounts m.now.code.now m.now.graph.now m.now.profile.now counts.now }
+    requires size { length tallies.now ≡ length m.now.pieces.now }
+    requires tallies { AreTallies m.now (length m.now.pieces.now) tallies.now }
     requires pieces { All (CanWeighPiece m.now) m.now.pieces.now }
     ensures { OnOk result (map plain_full_var vars.new.items ≡ map plain_full_var vars.old.items ++ map (on_var m.now) (overlaid_pieces (scene_in m.now) m.now.pieces.now m.now.regions.now.count)) }
 {
     let table = piece_regions(alloc, m)?;
-    match push_pieces_by(vars, m, counts, &table) {
+    match push_pieces_by(vars, m, tallies, &table) {
         Ok(()) => Ok(()),
         Err(error) => Err(error),
     }
@@ -355,11 +360,12 @@ pub(crate) fn on_vars(
     requires inside { All (λ o. o < length m.now.graph.now.objects.items) objects.now }
     ensures { IfOk result (λ vars. map plain_full_var vars.items ≡ on_vars m.now objects.now) }
 {
+    let tallies = tallies(alloc, m, counts)?;
     let mut vars = Vec::new(alloc);
     push_static_objects(&mut vars, m)?;
-    push_static_pieces(&mut vars, m, counts)?;
+    push_static_pieces(&mut vars, m, &tallies)?;
     push_overlaid_objects(&mut vars, m, objects)?;
-    push_overlaid_pieces(alloc, &mut vars, m, counts)?;
+    push_overlaid_pieces(alloc, &mut vars, m, &tallies)?;
     push_kept_objects(&mut vars, m, objects)?;
     Ok(vars)
 }

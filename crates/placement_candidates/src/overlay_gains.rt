@@ -1,16 +1,15 @@
 ghost use Rattle.std.specs.Prelude.{◌≡◌, ◌*◌, ◌/◌, ◌^◌, ◌<◌, ◌≤◌, length, slice_index_or};
-ghost use Rattle.energy_model.specs.{Energy.{into_price}, Counts.{AreBlockCounts}};
+ghost use Rattle.block_splitter.specs.declared.piece.Piece.{Piece};
+ghost use Rattle.energy_model.specs.Energy.{into_price};
 ghost use Rattle.cell_values.specs.Objects.{object_of, datum_of};
 ghost use Rattle.placement_programme.specs.Rows.{static_data, static_code, overlay_data, overlay_code, kept_data};
-ghost use Rattle.placement_candidates.specs.{Stated.{part_of}, OverlayCounted.{scene_in, code_gain_in, gain_in, CanGain, CanWeighPiece}};
+ghost use Rattle.placement_candidates.specs.{Stated.{part_of}, OverlayCounted.{scene_in, code_gain_in, gain_in, CanGain}, Tallies.{IsTally}};
 
 use crate::measured::Measured;
 use crate::objects::{data_gain, object_at};
-use block_splitter::{BlockRange, Piece};
-use energy_model::{
-    BlockCounts, RunTables, count_entering, count_piece, into_price, kept_counts, object_gain,
-    overlaid_counts, piece_gain,
-};
+use crate::tallies::PieceTally;
+use block_splitter::Piece;
+use energy_model::{into_price, kept_counts, object_gain, overlaid_counts, piece_gain};
 
 /// What object `o` saves throughout.
 pub(crate) fn static_data_gain(m: &Measured<'_>, o: u32) -> i128
@@ -46,43 +45,21 @@ pub(crate) fn kept_data_gain(m: &Measured<'_>, pair: u32, o: u32) -> i128
     object_gain(&object, &counts, &m.board.prices)
 }
 
-/// What a piece saves whose copies cost so much.
-fn code_gain(m: &Measured<'_>, counts: &BlockCounts, piece: &Piece, copies: u128) -> i128
-    requires gain { CanGain m.now }
-    requires counts { AreBlockCounts m.now.code.now m.now.graph.now m.now.profile.now counts.now }
-    requires piece { CanWeighPiece m.now piece.now }
+/// What a piece saves of which this is counted and whose copies cost so much.
+fn code_gain(m: &Measured<'_>, tally: &PieceTally, copies: u128) -> i128
+    requires tally { (p : Piece) × IsTally m.now p tally.now }
     requires copies { copies < 2 ^ 120 }
-    ensures { result ≡ code_gain_in m.now piece.now.first piece.now.last copies }
+    ensures { (p : Piece) → IsTally m.now p tally.now → result ≡ code_gain_in m.now p.first p.last copies }
 {
-    let range = BlockRange {
-        first: piece.first,
-        last: piece.last,
-    };
-    let tables = RunTables {
-        code: m.code,
-        graph: m.graph,
-        profile: m.profile,
-        counts,
-        regions: m.regions,
-    };
-    let run = count_piece(m.code, m.graph, m.profile, counts, &range);
-    let entering = count_entering(&tables, &range);
-    piece_gain(&run, &entering, copies, &m.board.prices)
+    piece_gain(&tally.run, &tally.entering, copies, &m.board.prices)
 }
 
-/// What a piece saves throughout.
-pub(crate) fn static_code_gain(m: &Measured<'_>, counts: &BlockCounts, piece: &Piece) -> i128
-    requires gain { CanGain m.now }
-    requires counts { AreBlockCounts m.now.code.now m.now.graph.now m.now.profile.now counts.now }
-    requires piece { CanWeighPiece m.now piece.now }
+/// What a piece saves throughout, of which this is counted.
+pub(crate) fn static_code_gain(m: &Measured<'_>, tally: &PieceTally, piece: &Piece) -> i128
+    requires { IsTally m.now piece.now tally.now }
     ensures { result ≡ gain_in m.now (static_code (part_of (scene_in m.now) piece.now)) }
 {
-    code_gain(
-        m,
-        counts,
-        piece,
-        into_price(piece.bytes / 4, &m.board.prices),
-    )
+    code_gain(m, tally, into_price(piece.bytes / 4, &m.board.prices))
 }
 
 /// What the copies of a piece cost that is copied whenever region `r` becomes current.
@@ -96,18 +73,12 @@ fn copies_price(m: &Measured<'_>, r: u32, piece: &Piece) -> u128
     enters * into_price(piece.bytes / 4, &m.board.prices)
 }
 
-/// What a piece saves in region `r`.
-pub(crate) fn overlay_code_gain(
-    m: &Measured<'_>,
-    counts: &BlockCounts,
-    r: u32,
-    piece: &Piece,
-) -> i128
+/// What a piece saves in region `r`, of which this is counted.
+pub(crate) fn overlay_code_gain(m: &Measured<'_>, r: u32, tally: &PieceTally, piece: &Piece) -> i128
     requires gain { CanGain m.now }
-    requires counts { AreBlockCounts m.now.code.now m.now.graph.now m.now.profile.now counts.now }
     requires region { r ≤ m.now.regions.now.count }
-    requires piece { CanWeighPiece m.now piece.now }
+    requires tally { IsTally m.now piece.now tally.now }
     ensures { result ≡ gain_in m.now (overlay_code r (part_of (scene_in m.now) piece.now)) }
 {
-    code_gain(m, counts, piece, copies_price(m, r, piece))
+    code_gain(m, tally, copies_price(m, r, piece))
 }

@@ -10,6 +10,9 @@ use Rattle.placement_candidates.proofs.OverlayVarLemmas.{vars_more, no_vars_more
 use Rattle.placement_candidates.proofs.overlaid_vars.push_pieces_in.Goals as goal
 use Rattle.placement_candidates.proofs.overlaid_vars.push_pieces_in.Goals.{then-table-k+in_ok-push_overlay_code, else-table-k}
 
+pub push_overlay_code-requires-clause-tally : goal.push_overlay_code-requires-clause-tally
+push_overlay_code-requires-clause-tally c = c.requires.tallies.each c.loop-k.k c.index-m-k.result _ c.loop-k-test.true
+
 pub loop-k-preserved : goal.loop-k-preserved
 loop-k-preserved c =
     let m = c.args.m.now in

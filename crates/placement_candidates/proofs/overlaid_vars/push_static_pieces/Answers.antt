@@ -8,6 +8,9 @@ use Rattle.placement_candidates.specs.Overlaid.{static_pieces}
 use Rattle.placement_candidates.proofs.OverlayVarLemmas.{vars_more, mapped_more}
 use Rattle.placement_candidates.proofs.overlaid_vars.push_static_pieces.Goals as goal
 
+pub push_static_code-requires-clause-tally : goal.push_static_code-requires-clause-tally
+push_static_code-requires-clause-tally c = c.requires.tallies.each c.loop-k.k c.index-m-k.result _ c.loop-k-test.true
+
 pub loop-k-preserved : goal.loop-k-preserved
 loop-k-preserved c =
     vars_more (on_var c.args.m.now) (map plain_full_var c.args.vars.now.items) (map plain_full_var c.loop-k.vars.items) (map plain_full_var c.push_static_code.new.vars.items)
