@@ -143,6 +143,14 @@ fn bound_of(
     Ok(found)
 }
 
+fn bounded_side(alloc: Global, layout: Layout) -> Result<BoundedSide, AllocError> {
+    let dual_problem = LagrangianDual::new(alloc, &layout)?;
+    Ok(BoundedSide {
+        layout,
+        dual_problem,
+    })
+}
+
 impl Guide for DualBound {
     ghost use Rattle.branch_bound.specs.FirstSearch.{any_answer};
 
@@ -150,10 +158,7 @@ impl Guide for DualBound {
 
     fn of(alloc: Global, side: &Side) -> Result<DualBound, AllocError> {
         let bounded = match Layout::of(alloc, side)? {
-            Some(layout) => Some(BoundedSide {
-                dual_problem: LagrangianDual::new(alloc, &layout)?,
-                layout,
-            }),
+            Some(layout) => Some(bounded_side(alloc, layout)?),
             None => None,
         };
         Ok(DualBound {

@@ -89,7 +89,7 @@ fn ended_of(alloc: Global, ends: &[(usize, u32)], rows: usize) -> Result<Vec<u64
     Ok(ended)
 }
 
-fn tied_of(
+fn tied_from(
     alloc: Global,
     columns: &[Column],
     ends: &[(usize, u32)],
@@ -108,6 +108,13 @@ fn tied_of(
         }
     }
     Ok(tied)
+}
+
+/// The variables with packing rows, of which there are so many, by their last ones and then by their numbers.
+fn tied_of(alloc: Global, columns: &[Column], rows: usize) -> Result<Vec<Tied>, AllocError> {
+    let ends = sorted_ends(alloc, columns)?;
+    let ended = ended_of(alloc, &ends, rows)?;
+    tied_from(alloc, columns, &ends, &ended)
 }
 
 /// Adds a variable to the knapsack rows in which it weighs something.
@@ -179,23 +186,60 @@ fn ranking_of(alloc: Global, columns: &[Column]) -> Result<Vec<Ranked>, AllocErr
     Ok(ranking)
 }
 
+/// The variables of a side in the orders in which the bound reads them.
+#[derive(Drop)]
+struct Orders {
+    tied: Vec<Tied>,
+    loose: Vec<Loose>,
+    by_gain: Vec<Ranked>,
+}
+
+fn orders_of(alloc: Global, columns: &[Column], rows: usize) -> Result<Orders, AllocError> {
+    let tied = tied_of(alloc, columns, rows)?;
+    let loose = loose_of(alloc, columns)?;
+    let by_gain = ranking_of(alloc, columns)?;
+    Ok(Orders {
+        tied,
+        loose,
+        by_gain,
+    })
+}
+
+/// The layout of columns over named rows, behind the orders of their variables.
+fn ordered_layout(
+    alloc: Global,
+    scale: u32,
+    rows: NamedRows,
+    columns: Vec<Column>,
+    orders: Orders,
+) -> Result<Layout, AllocError> {
+    let knapsack_end = rows.knapsack_end();
+    let by_row = by_row_of(alloc, &columns, knapsack_end)?;
+    let knapsack = flagged(alloc, &rows.is_knapsack)?;
+    let Orders {
+        tied,
+        loose,
+        by_gain,
+    } = orders;
+    Ok(Layout {
+        scale,
+        rows,
+        columns,
+        knapsack,
+        knapsack_end,
+        by_row,
+        tied,
+        loose,
+        by_gain,
+    })
+}
+
 /// The layout of a side whose gains are multiplied so.
 fn scaled_layout(alloc: Global, side: &Side, scale: u32) -> Result<Layout, AllocError> {
     let rows = NamedRows::of(alloc, side)?;
     let columns = columns_of(alloc, side, scale, &rows)?;
-    let ends = sorted_ends(alloc, &columns)?;
-    let ended = ended_of(alloc, &ends, rows.numbers.len())?;
-    Ok(Layout {
-        scale,
-        knapsack: flagged(alloc, &rows.is_knapsack)?,
-        knapsack_end: rows.knapsack_end(),
-        by_row: by_row_of(alloc, &columns, rows.knapsack_end())?,
-        tied: tied_of(alloc, &columns, &ends, &ended)?,
-        loose: loose_of(alloc, &columns)?,
-        by_gain: ranking_of(alloc, &columns)?,
-        rows,
-        columns,
-    })
+    let orders = orders_of(alloc, &columns, rows.numbers.len())?;
+    ordered_layout(alloc, scale, rows, columns, orders)
 }
 
 impl Layout {

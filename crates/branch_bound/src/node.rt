@@ -1,7 +1,7 @@
 use crate::columns::Column;
 use crate::layout::Layout;
 use crate::numbers::{first_numbers, is_set, number_at, numbered, put, set, unset, zeros};
-use certificate_checker::Fixing;
+use certificate_checker::{Fixing, is_free, is_one};
 use std::alloc::{AllocError, Global};
 
 /// What is left at a node of the search.
@@ -64,8 +64,8 @@ fn find_next_full(next_full: &mut [u64], full: &[bool]) {
 }
 
 fn restore_slack(slack: &mut [u64], capacities: &[u64]) {
-    for (left, capacity) in slack.iter_mut().zip(capacities) {
-        *left = *capacity;
+    for row in 0..slack.len() {
+        slack[row] = number_at(capacities, row);
     }
 }
 
@@ -116,24 +116,28 @@ impl Node {
     }
 
     fn fix_all(&mut self, layout: &Layout, marks: &[Fixing]) {
-        for (number, (column, fixing)) in layout.columns.iter().zip(marks).enumerate() {
-            if matches!(fixing, Fixing::One) {
+        for number in 0..marks.len().min(layout.columns.len()) {
+            if is_one(marks, number) {
                 set(&mut self.ones, number);
-                fix_to_one(self, column);
+                fix_to_one(self, &layout.columns[number]);
             }
         }
     }
 
     fn mark_free(&mut self, layout: &Layout, marks: &[Fixing]) -> Result<(), AllocError> {
-        for (number, (column, fixing)) in layout.columns.iter().zip(marks).enumerate() {
-            if !matches!(fixing, Fixing::Free) {
-                continue;
+        for number in 0..marks.len().min(layout.columns.len()) {
+            if is_free(marks, number) {
+                self.mark_one_free(&layout.columns[number], number)?;
             }
-            if self.full_row(column).is_some() {
-                self.barred.push(numbered(number))?;
-            } else {
-                set(&mut self.live, number);
-            }
+        }
+        Ok(())
+    }
+
+    fn mark_one_free(&mut self, column: &Column, number: usize) -> Result<(), AllocError> {
+        if self.full_row(column).is_some() {
+            self.barred.push(numbered(number))?;
+        } else {
+            set(&mut self.live, number);
         }
         Ok(())
     }
