@@ -8,6 +8,7 @@ use crate::chosen::ChosenPlacement;
 use crate::diagnostic::Diagnostic;
 use crate::opened::Opened;
 use crate::printing::put_text;
+use crate::relinked_file::RelinkedFile;
 use command_language::CommandFault;
 use printed_lines::Text;
 use relinking::MeasuredEnd;
@@ -71,6 +72,7 @@ impl<'a> PreparedResult<'a> {
         text: Text<'a>,
         measured: Option<MeasuredEnd>,
         chosen: Option<ChosenPlacement>,
+        opened: Option<Opened<'a>>,
     ) -> Result<PreparedResult<'a>, AllocError>
         ensures outputs { IfOk result (λ prepared. ArePrepared [] [] prepared.outputs.items) }
         ensures text { IfOk result (λ prepared. text_of prepared.text ≡ text_of text.entry) }
@@ -84,7 +86,7 @@ impl<'a> PreparedResult<'a> {
             print_fault,
             measured,
             chosen,
-            opened: None,
+            opened,
         })
     }
 
@@ -115,31 +117,44 @@ impl<'a> PreparedResult<'a> {
         })
     }
 
-    /// A result that is also written under two names, in this order.
-    pub fn written_twice(
+    /// A file that was relinked, which is written behind its certificate, and the report on it.
+    pub fn relinked(
         alloc: Global,
-        first: Output<'a>,
-        second: Output<'a>,
-        text: Text<'a>,
-        measured: Option<MeasuredEnd>,
-        chosen: Option<ChosenPlacement>,
+        out: &'a str,
+        cert: &'a str,
+        made: RelinkedFile<'a>,
     ) -> Result<PreparedResult<'a>, AllocError>
-        ensures outputs { IfOk result (λ prepared. prepared.outputs.items ≡ first.entry ∷ second.entry ∷ []) }
-        ensures text { IfOk result (λ prepared. text_of prepared.text ≡ text_of text.entry) }
+        ensures outputs { IfOk result (λ prepared. ArePrepared (named 5 cert.now ∷ named 4 out.now ∷ []) (made.entry.certificate.items ∷ made.entry.file.items ∷ []) prepared.outputs.items) }
+        ensures text { IfOk result (λ prepared. text_of prepared.text ≡ text_of made.entry.report) }
         ensures print_fault { IfOk result (λ prepared. IsDiagnosticOf (command_fault.Write 0) prepared.print_fault) }
-        ensures measured { IfOk result (λ prepared. prepared.measured ≡ measured) }
+        ensures measured { IfOk result (λ prepared. prepared.measured ≡ made.entry.end) }
     {
         let print_fault = Diagnostic::try_new(alloc, &CommandFault::Write { place: 0 })?;
-        let outputs = vec![in alloc; first, second]?;
+        let outputs = relinked_outputs(alloc, out, cert, made.certificate, made.file)?;
         Ok(PreparedResult {
             outputs,
-            text,
+            text: made.report,
             print_fault,
-            measured,
-            chosen,
-            opened: None,
+            measured: made.end,
+            chosen: Some(made.chosen),
+            opened: Some(made.opened),
         })
     }
+}
+
+/// A certificate and a relinked file, each to be written under its name.
+fn relinked_outputs<'a>(
+    alloc: Global,
+    out: &'a str,
+    cert: &'a str,
+    certificate: Vec<u8>,
+    file: Vec<u8>,
+) -> Result<Vec<Output<'a>>, AllocError>
+    ensures { IfOk result (λ outputs. ArePrepared (named 5 cert.now ∷ named 4 out.now ∷ []) (certificate.items ∷ file.items ∷ []) outputs.items) }
+{
+    let first = Output::new(alloc, 5, cert, certificate)?;
+    let second = Output::new(alloc, 4, out, file)?;
+    Ok(vec![in alloc; first, second]?)
 }
 
 /// Writes the outputs, and then prints the text.

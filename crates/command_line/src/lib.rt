@@ -26,6 +26,7 @@ mod printing;
 mod profile_file;
 mod reading;
 mod relink_file;
+mod relinked_file;
 mod results;
 mod run_file;
 mod safety;

@@ -3,7 +3,7 @@ ghost use Rattle.command_language.specs.Command.{mix_command, check_mix_command}
 ghost use Rattle.command_line.specs.{Reading.{contents}, Listing.{listed_names, third}, ListedTexts.{Lists}, Meaning.{RejectsInputs}, InputTexts.{inputs_in}, Performing.{IsPreparedFor}};
 
 use crate::check_mix_file::check_mix_file;
-use crate::delivery::{Output, PreparedResult};
+use crate::delivery::PreparedResult;
 use crate::input_texts::InputTexts;
 use crate::mix_file::mix_file;
 use crate::mix_inputs::{ListedTexts, weighted_texts};
@@ -58,17 +58,7 @@ fn mixed_result<'a>(
 {
     let inputs = weighted_texts(alloc, &listed.lines, listed.texts)?;
     match mix_file(alloc, &texts[0], &texts[1], &inputs, progress) {
-        Ok(mixed) => {
-            let first = Output::new(alloc, 5, cert, mixed.certificate)?;
-            let second = Output::new(alloc, 4, out, mixed.file)?;
-            let chosen = Some(mixed.chosen);
-            let report = mixed.report;
-            let mut made = PreparedResult::written_twice(
-                alloc, first, second, report, None, chosen,
-            )?;
-            made.opened = Some(mixed.opened);
-            Ok(made)
-        }
+        Ok(made) => Ok(PreparedResult::relinked(alloc, out, cert, made)?),
         Err(fault) => Err(fault),
     }
 }
@@ -118,9 +108,8 @@ fn checked_result<'a>(
         Ok(checked) => {
             let text = Text::plain(checked.report.into_bytes());
             let chosen = Some(checked.chosen);
-            let mut made = PreparedResult::printed(alloc, text, None, chosen)?;
-            made.opened = Some(checked.opened);
-            Ok(made)
+            let opened = Some(checked.opened);
+            Ok(PreparedResult::printed(alloc, text, None, chosen, opened)?)
         }
         Err(fault) => Err(fault),
     }

@@ -4,7 +4,7 @@ ghost use Rattle.command_line.specs.{Reading.{contents}, Meaning.{RejectsInputs,
 
 use crate::check_file::check_file;
 use crate::compare_files::compare_files;
-use crate::delivery::{Output, PreparedResult};
+use crate::delivery::PreparedResult;
 use crate::hex_files::{check_hex, hex_file};
 use crate::input_texts::InputTexts;
 use crate::mix_results::{prepare_check_mix, prepare_mix};
@@ -126,18 +126,7 @@ fn prepare_relink<'a>(
         → RejectsInputs (relink_command f b i out.now cert.now) (contents texts.now) fault) }
 {
     match relink_file(alloc, &texts[0], &texts[1], &texts[2], progress) {
-        Ok(relinked) => {
-            let first = Output::new(alloc, 5, cert, relinked.certificate)?;
-            let second = Output::new(alloc, 4, out, relinked.file)?;
-            let end = Some(relinked.end);
-            let chosen = Some(relinked.chosen);
-            let report = relinked.report;
-            let mut made = PreparedResult::written_twice(
-                alloc, first, second, report, end, chosen,
-            )?;
-            made.opened = Some(relinked.opened);
-            Ok(made)
-        }
+        Ok(made) => Ok(PreparedResult::relinked(alloc, out, cert, made)?),
         Err(fault) => Err(fault),
     }
 }
@@ -156,9 +145,8 @@ fn prepare_profile<'a>(
     match profile_file(alloc, &texts[0], &texts[1], &texts[2], progress) {
         Ok(profiled) => {
             let end = Some(profiled.end);
-            let mut made = PreparedResult::printed(alloc, profiled.text, end, None)?;
-            made.opened = Some(profiled.opened);
-            Ok(made)
+            let opened = Some(profiled.opened);
+            Ok(PreparedResult::printed(alloc, profiled.text, end, None, opened)?)
         }
         Err(fault) => Err(fault),
     }
@@ -176,9 +164,9 @@ fn prepare_compare<'a>(
 {
     match compare_files(alloc, &texts[0], &texts[1], &texts[2], &texts[3]) {
         Ok(compared) => {
-            let mut made = PreparedResult::printed(alloc, Text::plain(compared.text), None, None)?;
-            made.opened = Some(compared.opened);
-            Ok(made)
+            let text = Text::plain(compared.text);
+            let opened = Some(compared.opened);
+            Ok(PreparedResult::printed(alloc, text, None, None, opened)?)
         }
         Err(fault) => Err(fault),
     }
@@ -198,10 +186,10 @@ fn prepare_check<'a>(
     match check_file(alloc, &texts[0], &texts[1], &texts[2], &texts[3], progress) {
         Ok(checked) => {
             let text = Text::plain(checked.report.into_bytes());
+            let end = Some(checked.end);
             let chosen = Some(checked.chosen);
-            let mut made = PreparedResult::printed(alloc, text, Some(checked.end), chosen)?;
-            made.opened = Some(checked.opened);
-            Ok(made)
+            let opened = Some(checked.opened);
+            Ok(PreparedResult::printed(alloc, text, end, chosen, opened)?)
         }
         Err(fault) => Err(fault),
     }
@@ -220,9 +208,9 @@ fn prepare_paid<'a>(
 {
     match paid_file(alloc, &texts[0], &texts[1], &texts[2], &texts[3], progress) {
         Ok(paid) => {
-            let mut made = PreparedResult::printed(alloc, paid.text, Some(paid.end), None)?;
-            made.opened = Some(paid.opened);
-            Ok(made)
+            let end = Some(paid.end);
+            let opened = Some(paid.opened);
+            Ok(PreparedResult::printed(alloc, paid.text, end, None, opened)?)
         }
         Err(fault) => Err(fault),
     }
@@ -261,9 +249,8 @@ fn prepare_show<'a>(alloc: Global, texts: &'a [Vec<u8>]) -> Result<PreparedResul
 {
     match show_file(alloc, &texts[0], &texts[1]) {
         Ok(shown) => {
-            let mut made = PreparedResult::printed(alloc, shown.text, None, None)?;
-            made.opened = Some(shown.opened);
-            Ok(made)
+            let opened = Some(shown.opened);
+            Ok(PreparedResult::printed(alloc, shown.text, None, None, opened)?)
         }
         Err(fault) => Err(fault),
     }
@@ -326,7 +313,7 @@ fn prepare_hex_check<'a>(
         Ok(()) => {
             let line = String::from_str(alloc, "same\n")?;
             let text = Text::plain(line.into_bytes());
-            Ok(PreparedResult::printed(alloc, text, None, None)?)
+            Ok(PreparedResult::printed(alloc, text, None, None, None)?)
         }
         Err(fault) => Err(fault),
     }

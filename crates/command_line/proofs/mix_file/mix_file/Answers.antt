@@ -47,7 +47,7 @@ returns-clause-ok g c =
     let made = c.in_ok-relinked.ensures.ok file is.analysed in
     let p = plain_programme relinked.programme in
     let choice = plain_choice relinked.found.choice in
-    let parts = c.mixed_file.ensures in
+    let parts = c.relinked_file.ensures in
     rw (parts.certificate, parts.file, parts.report) record {
       board = o.board;
       accepts = is.accepts;

@@ -30,7 +30,7 @@ returns-in-Ok-clause-ok g c f b m k =
     let cert = c.deref-5.result.now in
     let texts = four_with_third c.args.texts.now c.index-texts-0.result c.index-texts-1.result c.index-texts-3.result file board cert c.requires.texts c.index-texts-0.is c.index-texts-1.is c.index-texts-3.is c.deref-2.ensures.value c.deref-3.ensures.value c.deref-5.ensures.value in
     let is = subst (λ (ps : List WeightedInput). ChecksMixTo file board ps cert (string_bytes c.in-Ok.checked.report)) inputs c.in-Ok.ensures.ok in
-    let made = c.in_ok-made-in-Ok.ensures in
+    let made = c.in_ok-printed-in-Ok.ensures in
     record {
       outputs = [];
       yields = rw (made.text, c.plain-text.ensures, c.into_bytes.ensures.value) (checks_mix f b m k file board mix cert listed refl (ap (λ ts. ts ++ listed) (sym texts)) refl c.requires.listed.unbroken is);
@@ -55,7 +55,7 @@ returns-clause-err g c f b m k =
     (check_mix_rejected f b m k file board mix cert listed fault c.requires.listed.unbroken
     (subst (λ (ps : List WeightedInput). RejectsCheckedRuns board file ps cert fault) inputs c.in-Err.ensures.err))
 
-pub returns-in_err-made-in-Ok-clause-err : goal.returns-in_err-made-in-Ok-clause-err
-returns-in_err-made-in-Ok-clause-err g c =
-    let p = err_from_is_err_and c.from_residual-in_err-made-in-Ok.result c.from_residual-in_err-made-in-Ok.ensures.1 in
+pub returns-in_err-printed-in-Ok-clause-err : goal.returns-in_err-printed-in-Ok-clause-err
+returns-in_err-printed-in-Ok-clause-err g c =
+    let p = err_from_is_err_and c.from_residual-in_err-printed-in-Ok.result c.from_residual-in_err-printed-in-Ok.ensures.1 in
     rw (p.1, p.2) (λ f b m k. inl refl)

@@ -29,15 +29,15 @@ returns-in-Ok-clause-ok g c f b m =
     let file = c.deref-2.result.now in
     let board = c.deref-3.result.now in
     let texts = three_with_third c.args.texts.now c.index-texts-0.result c.index-texts-1.result file board c.requires.texts c.index-texts-0.is c.index-texts-1.is c.deref-2.ensures.value c.deref-3.ensures.value in
-    let mixed = c.in-Ok.mixed in
+    let mixed = c.in-Ok.made in
     let is = subst (λ (ps : List WeightedInput). MixesTo file board ps mixed.certificate.items mixed.file.items (text_of mixed.report)) inputs c.in-Ok.ensures.ok in
-    let made = c.in_ok-made-in-Ok.ensures in
+    let made = c.in_ok-relinked-in-Ok.ensures in
     record {
       outputs = mixed.certificate.items ∷ mixed.file.items ∷ [];
       yields = rw made.text (mixes f b m _ _ file board mix _ _ listed refl (ap (λ ts. ts ++ listed) (sym texts)) refl c.requires.listed.unbroken is);
-      prepared_outputs = rw made.outputs (c.in_ok-first-in-Ok.ensures, (c.in_ok-second-in-Ok.ensures, tt));
+      prepared_outputs = made.outputs;
       print_fault = made.print_fault;
-      measured = measures_none refl made.measured;
+      measured = measures_none refl (made.measured ∙ c.in-Ok.ensures.end);
     }
 
 pub returns-clause-err : goal.returns-clause-err
@@ -55,12 +55,7 @@ returns-clause-err g c f b m =
     (mix_rejected f b m c.args.out.now c.args.cert.now file board mix listed fault c.requires.listed.unbroken
     (subst (λ (ps : List WeightedInput). RejectsRuns board file ps fault) inputs c.in-Err.ensures.err))
 
-pub returns-in_err-first-in-Ok-clause-err : goal.returns-in_err-first-in-Ok-clause-err
-returns-in_err-first-in-Ok-clause-err g c =
-    let p = err_from_is_err_and c.from_residual-in_err-first-in-Ok.result c.from_residual-in_err-first-in-Ok.ensures.1 in
-    rw (p.1, p.2) (λ f b m. inl refl)
-
-pub returns-in_err-second-in-Ok-clause-err : goal.returns-in_err-second-in-Ok-clause-err
-returns-in_err-second-in-Ok-clause-err g c =
-    let p = err_from_is_err_and c.from_residual-in_err-second-in-Ok.result c.from_residual-in_err-second-in-Ok.ensures.1 in
+pub returns-in_err-relinked-in-Ok-clause-err : goal.returns-in_err-relinked-in-Ok-clause-err
+returns-in_err-relinked-in-Ok-clause-err g c =
+    let p = err_from_is_err_and c.from_residual-in_err-relinked-in-Ok.result c.from_residual-in_err-relinked-in-Ok.ensures.1 in
     rw (p.1, p.2) (λ f b m. inl refl)

@@ -63,4 +63,5 @@ pub returns-clause-end : goal.returns-clause-end
 returns-clause-end g c =
     let o = c.in_ok-opened.opened in
     let is = c.in_ok-opened.ensures.ok in
-    rw c.relinked_file.ensures.end (ends_in_file c.args.file.now c.args.board.now c.args.input.now o c.in_ok-made.made.end is (c.in_ok-made.ensures.ok c.args.file.now is.analysed).ended)
+    let end = c.in_ok-made.made.end in
+    (end, (c.relinked_file.ensures.end, ends_in_file c.args.file.now c.args.board.now c.args.input.now o end is (c.in_ok-made.ensures.ok c.args.file.now is.analysed).ended))

@@ -7,10 +7,10 @@ use Rattle.command_line.proofs.CommandFaults.{certificate_rejected}
 use Rattle.command_line.proofs.Readings.{contents_of_four}
 use Rattle.command_line.proofs.results.prepare_check.Goals as goal
 
-pub returns-in_ok-made-in-Ok-clause-ok : goal.returns-in_ok-made-in-Ok-clause-ok
-returns-in_ok-made-in-Ok-clause-ok g c f b i k =
+pub returns-in_ok-printed-in-Ok-clause-ok : goal.returns-in_ok-printed-in-Ok-clause-ok
+returns-in_ok-printed-in-Ok-clause-ok g c f b i k =
     let are = contents_of_four c.args.texts.now c.index-texts-0.result c.index-texts-1.result c.index-texts-2.result c.index-texts-3.result _ _ _ _ c.requires c.index-texts-0.is c.index-texts-1.is c.index-texts-2.is c.index-texts-3.is c.deref.ensures.value c.deref-2.ensures.value c.deref-3.ensures.value c.deref-4.ensures.value in
-    let made = c.in_ok-made-in-Ok.ensures in
+    let made = c.in_ok-printed-in-Ok.ensures in
     record {
       outputs = [];
       yields = rw (made.text, c.plain-text.ensures, c.into_bytes.ensures.value) (checks f b i k _ _ _ _ refl (sym are) refl c.in-Ok.ensures.ok);
@@ -24,7 +24,7 @@ returns-in-Err-clause-err g c f b i k =
     let are = contents_of_four c.args.texts.now c.index-texts-0.result c.index-texts-1.result c.index-texts-2.result c.index-texts-3.result _ _ _ _ c.requires c.index-texts-0.is c.index-texts-1.is c.index-texts-2.is c.index-texts-3.is c.deref.ensures.value c.deref-2.ensures.value c.deref-3.ensures.value c.deref-4.ensures.value in
     subst (λ (ts : List (List ℕ)). RejectsInputs (check_command f b i k) ts c.in-Err.fault) are (certificate_rejected _ _ _ _ _ c.in-Err.ensures.err f b i k)
 
-pub returns-in_err-made-in-Ok-clause-err : goal.returns-in_err-made-in-Ok-clause-err
-returns-in_err-made-in-Ok-clause-err g c =
+pub returns-in_err-printed-in-Ok-clause-err : goal.returns-in_err-printed-in-Ok-clause-err
+returns-in_err-printed-in-Ok-clause-err g c =
     let p = err_from_is_err_and c.from_residual.result c.from_residual.ensures.1 in
     rw (p.1, p.2) (λ f b i k. inl refl)

@@ -6,10 +6,10 @@ use Rattle.command_line.proofs.CommandFaults.{show_rejected}
 use Rattle.command_line.proofs.Readings.{contents_of_two}
 use Rattle.command_line.proofs.results.prepare_show.Goals as goal
 
-pub returns-in_ok-made-in-Ok-clause-ok : goal.returns-in_ok-made-in-Ok-clause-ok
-returns-in_ok-made-in-Ok-clause-ok c f b =
+pub returns-in_ok-printed-in-Ok-clause-ok : goal.returns-in_ok-printed-in-Ok-clause-ok
+returns-in_ok-printed-in-Ok-clause-ok c f b =
     let are = contents_of_two c.args.texts.now c.index-texts-0.result c.index-texts-1.result _ _ c.requires c.index-texts-0.is c.index-texts-1.is c.deref.ensures.value c.deref-2.ensures.value in
-    let made = c.in_ok-made-in-Ok.ensures in
+    let made = c.in_ok-printed-in-Ok.ensures in
     record {
       outputs = [];
       yields = rw made.text (shows f b _ _ refl (sym are) refl c.in-Ok.ensures.ok);
