@@ -104,23 +104,52 @@ lanes() {
     echo $((memory < processors ? memory : processors))
 }
 
-# The crates that few others can be proved beside are those on top: they stand on `relink_core`.
-lower_crates() { awk -F: -v program="$crate" '$1 != program && $2 !~ / relink_core( |$)/ { print $1 }' "$build/crates.txt"; }
+# Whether there is memory for two crates a processor, few of which take more than 2 GB.
+has_room() { [ "$(awk '/^MemAvailable:/ { print int($2 / 4194304) }' /proc/meminfo 2>/dev/null)" -ge "$(nproc)" ] 2>/dev/null; }
+
+# The crates that do not stand on `object_machine`.
+lower_crates() {
+    awk -F: '
+        function stands(name,    i, n, below) {
+            if (name in known) return known[name]
+            known[name] = name == "object_machine"
+            n = split(uses[name], below, " ")
+            for (i = 1; i <= n; i++) if (stands(below[i])) known[name] = 1
+            return known[name]
+        }
+        /^[a-z0-9_]+:/ { uses[$1] = $2 }
+        END { for (crate in uses) if (!stands(crate)) print crate }
+    ' "$build/crates.txt"
+}
 
 # Whether `rt` keeps on this machine what it proves, so that a second run of it goes on from there.
 keeps_proofs() {
     local kit kept
     kit=$(dirname "$(rt doc)") && kept=$(dirname "$kit")/rattle-kept
-    rt --help | grep -q 'is kept beside the kit' && mkdir -p "$kept" 2>/dev/null && [ -O "$kept" ] && [ -w "$kept" ]
+    [[ $(rt --help 2>&1) == *'is kept beside the kit'* ]] && mkdir -p "$kept" 2>/dev/null && [ -O "$kept" ] && [ -w "$kept" ]
 }
 
-# Proves the lower crates side by side, and the upper ones behind them by as many jobs each as `rt` has memory for: told how many
-# crates to prove at a time, it gives each one job.
+# Proves the dear crates of the longest chain of crates one behind the other, each with what it stands on, by as many jobs as
+# processors are idle and memory allows, and then all. Beside them the crates that don't stand on `object_machine` are proved, one
+# job each, by what processors the chain leaves: told how many crates to prove at a time, `rt` gives each one job, and by itself it
+# gives a crate more where no other one is ready. Two runs of it wait for each other's crates and share what they prove. The chain
+# begins first, so that it mostly finds its next crate free.
+prove_chain() {
+    local others status
+    (sleep 10; RT_JOBS=$(lanes) exec nice -n 10 rt ci $(lower_crates)) &
+    others=$!
+    rt ci object_graph && rt ci object_machine && rt ci relink_core && rt ci
+    status=$?
+    kill "$others" 2>/dev/null
+    wait "$others" 2>/dev/null
+    return $status
+}
+
 prove() {
     if [ -n "${RT_JOBS-}" ]; then
         rt ci
-    elif keeps_proofs; then
-        RT_JOBS=$(lanes) rt ci $(lower_crates) && rt ci
+    elif keeps_proofs && has_room; then
+        prove_chain
     else
         RT_JOBS=$(lanes) rt ci
     fi
