@@ -64,7 +64,7 @@ tell_progress() {
     local line= part status name told=' ' done=0 proved=0 all needed began=$SECONDS
     all=$(wc -l <"$build/crates.txt")
     needed=$(seconds_of $(cut -d: -f1 "$build/crates.txt"))
-    say "$all crates are proved, which took $((needed / 60)) minutes of a processor on a slow, busy machine; there are $(nproc) here"
+    say "$all crates are proved, which took $((needed / 60)) minutes of a processor where that was measured; there are $(nproc) here"
     say "you may stop it: where the kit keeps what is proved, the next call goes on from there"
     while true; do
         part=
@@ -104,56 +104,9 @@ lanes() {
     echo $((memory < processors ? memory : processors))
 }
 
-# Whether there is memory for two crates a processor, few of which take more than 2 GB.
-has_room() { [ "$(awk '/^MemAvailable:/ { print int($2 / 4194304) }' /proc/meminfo 2>/dev/null)" -ge "$(nproc)" ] 2>/dev/null; }
-
-# The crates that do not stand on `object_machine`.
-lower_crates() {
-    awk -F: '
-        function stands(name,    i, n, below) {
-            if (name in known) return known[name]
-            known[name] = name == "object_machine"
-            n = split(uses[name], below, " ")
-            for (i = 1; i <= n; i++) if (stands(below[i])) known[name] = 1
-            return known[name]
-        }
-        /^[a-z0-9_]+:/ { uses[$1] = $2 }
-        END { for (crate in uses) if (!stands(crate)) print crate }
-    ' "$build/crates.txt"
-}
-
-# Whether `rt` keeps on this machine what it proves, so that a second run of it goes on from there.
-keeps_proofs() {
-    local kit kept
-    kit=$(dirname "$(rt doc)") && kept=$(dirname "$kit")/rattle-kept
-    [[ $(rt --help 2>&1) == *'is kept beside the kit'* ]] && mkdir -p "$kept" 2>/dev/null && [ -O "$kept" ] && [ -w "$kept" ]
-}
-
-# Proves the dear crates of the longest chain of crates one behind the other, each with what it stands on, by as many jobs as
-# processors are idle and memory allows, and then all. Beside them the crates that don't stand on `object_machine` are proved, one
-# job each, by what processors the chain leaves: told how many crates to prove at a time, `rt` gives each one job, and by itself it
-# gives a crate more where no other one is ready. Two runs of it wait for each other's crates and share what they prove. The chain
-# begins first, so that it mostly finds its next crate free.
-prove_chain() {
-    local others status
-    (sleep 10; RT_JOBS=$(lanes) exec nice -n 10 rt ci $(lower_crates)) &
-    others=$!
-    rt ci object_graph && rt ci object_machine && rt ci relink_core && rt ci
-    status=$?
-    kill "$others" 2>/dev/null
-    wait "$others" 2>/dev/null
-    return $status
-}
-
-prove() {
-    if [ -n "${RT_JOBS-}" ]; then
-        rt ci
-    elif keeps_proofs && has_room; then
-        prove_chain
-    else
-        RT_JOBS=$(lanes) rt ci
-    fi
-}
+# Proves all in one run, one job a crate. By what `rt` reckons a crate gets a second job only where no other one is ready, and by
+# then most are proved (bench/gate/README.md).
+prove() { RT_JOBS=${RT_JOBS:-$(lanes)} rt ci; }
 
 build() {
     copy_sources || return
