@@ -34,7 +34,7 @@ use Rattle.shelf_io.specs.Sink.{SinkView}
 use Rattle.command_language.specs.Command.{PlainCommand, run_command, relink_command, profile_command, compare_command, check_command, mix_command, check_mix_command, gen_command, hex_command, hex_check_command, show_command, paid_command, trace_command, Named, named, writes}
 use Rattle.command_language.specs.Lines.{MixLine, mix_lines}
 use Rattle.command_line.specs.Analysed.{Accepts}
-use Rattle.command_line.specs.Delivery.{SetsAll}
+use Rattle.command_files.specs.Writing.{SetsAll}
 use Rattle.command_line.specs.Listing.{HoldsInputs}
 use Rattle.command_line.specs.RelinkFile.{RelinksTo}
 use Rattle.command_line.specs.MixFile.{inputs_of, MixesTo}

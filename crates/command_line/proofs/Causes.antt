@@ -3,11 +3,11 @@ use Rattle.std.proofs.Common.{◌≡◌, inl, inr, ℕ, List, refl, subst, sym, 
 use Rattle.shelf_io.specs.Shelf.{ShelfView}
 use Rattle.shelf_io.specs.Sink.{SinkView}
 use Rattle.command_language.specs.Command.{PlainCommand, IsCommand}
-use Rattle.command_line.specs.Diagnostic.{IsDiagnosticOrMemory}
+use Rattle.command_files.specs.Diagnostic.{IsDiagnosticOrMemory}
 use Rattle.command_line.specs.Listing.{name_fails, names_want_memory}
 use Rattle.command_line.specs.Performing.{Performs, YieldsOf, InputsFail, RejectsPreparing, RejectsPerforming, IsRejectedBy, preparing_fails, write_fails, print_fails, line_wants_memory, write_wants_memory}
 use Rattle.command_line.specs.Answers.{Produces, InputFails, IsDone, IsNoCommand, WantsBeforeWriting, Cause, HasCause}
-use Rattle.command_line.specs.declared.diagnostic.Diagnostic.{Diagnostic}
+use Rattle.command_files.specs.declared.diagnostic.Diagnostic.{Diagnostic}
 use Rattle.command_language.specs.declared.faults.CommandFault.{CommandFault}
 use Rattle.command_language.specs.declared.faults.CommandFault.TheVariants as command_fault
 use Rattle.command_line.proofs.Statuses.{first_least}

@@ -1,26 +1,22 @@
 -- How the parts of a command make its ending.
 use Rattle.std.proofs.Common.{◌≡◌, ◌⊎◌, inl, inr, ℕ, List, [], ◌∷◌, Option, refl, subst, sym, arith}
-use Rattle.std.proofs.lemmas.Fmt.{decimal_digit}
 use Rattle.shelf_io.specs.Shelf.{ShelfView, SetsName, LosesName}
 use Rattle.shelf_io.specs.Sink.{SinkView}
 use Rattle.printed_lines.specs.Texts.{text_of}
 use Rattle.command_language.specs.Command.{PlainCommand, Named, writes}
-use Rattle.command_line.specs.Diagnostic.{IsDiagnosticOf, IsDiagnosticOrMemory}
-use Rattle.command_line.specs.Delivery.{ArePrepared, SetsAll, SetsPrepared, LosesOne, WantsInOne, FailsToWrite, write_fails, wants_memory, DeliversAll, FailsToDeliver, writing_fails, print_fails}
+use Rattle.command_files.specs.Diagnostic.{IsDiagnosticOf, IsDiagnosticOrMemory}
+use Rattle.command_files.specs.Writing.{ArePrepared, SetsAll, SetsPrepared, LosesOne, WantsInOne, FailsToWrite, write_fails, wants_memory}
+use Rattle.command_line.specs.Delivery.{DeliversAll, FailsToDeliver, writing_fails, print_fails}
 use Rattle.relinking.specs.declared.measuring.MeasuredEnd.{MeasuredEnd}
+use Rattle.command_files.proofs.Diagnostics.{memory_prepared}
 use Rattle.command_line.specs.Performing.{IsPrepared, RejectsPreparing, Performs, TellsEndOf, YieldsOf, IsRejectedBy}
 use Rattle.command_line.specs.Performing as performing
-use Rattle.command_line.specs.declared.delivery.Output.{Output}
+use Rattle.command_files.specs.declared.writing.Output.{Output}
 use Rattle.command_line.specs.declared.delivery.PreparedResult.{PreparedResult}
-use Rattle.command_line.specs.declared.diagnostic.Diagnostic.{Diagnostic}
-use Rattle.command_line.specs.declared.diagnostic.Diagnostic.TheVariants as diagnostic
+use Rattle.command_files.specs.declared.diagnostic.Diagnostic.{Diagnostic}
+use Rattle.command_files.specs.declared.diagnostic.Diagnostic.TheVariants as diagnostic
 use Rattle.command_language.specs.declared.faults.CommandFault.{CommandFault}
 use Rattle.command_language.specs.declared.faults.CommandFault.TheVariants as command_fault
-
--- the line that is kept ready is that of want of memory
-pub memory_prepared : IsDiagnosticOf command_fault.Memory diagnostic.Memory
-memory_prepared =
-    record { status = refl; line = rw (decimal_digit 9 (omega arith), decimal_digit 0 (omega arith)) refl }
 
 -- a write under the name and with the bytes that stand ready
 named_set : (name name' bytes bytes' : List ℕ) (old new : ShelfView)

@@ -9,8 +9,8 @@ use Rattle.hex_image.specs.Reading as hex
 use Rattle.command_language.specs.Command.{PlainCommand, IsCommand, Named}
 use Rattle.command_language.specs.Lines.{mix_lines}
 use Rattle.command_language.specs.FaultLine.{Parts, status_of, fault_line, parts_of, elf_parts}
-use Rattle.command_line.specs.Delivery.{LosesOne}
-use Rattle.command_line.specs.Diagnostic.{PutsLine, rejected_status, rejected_line}
+use Rattle.command_files.specs.Writing.{LosesOne}
+use Rattle.command_files.specs.Diagnostic.{PutsLine, rejected_status, rejected_line}
 use Rattle.command_line.specs.Listing.{HoldsInputs}
 use Rattle.compare_runner.specs.declared.comparing.Comparison.TheVariants.{Same}
 use Rattle.relink_core.specs.ResultFaults.{no_fault}
@@ -22,7 +22,7 @@ use Rattle.command_line.specs.PaidFile.{of_result}
 use Rattle.command_line.specs.MixFile as mixed
 use Rattle.command_line.specs.Meaning.{Compares, IsFirst, run_first, relink_first, profile_first, compare_first, check_first, mix_first, check_mix_first, gen_first, hex_first, check_difference, Yields, runs, relinks, profiles, compares, checks, mixes, checks_mix, generates, writes_hex, agrees, show_first, shows, paid_first, pays, trace_first, traces}
 use Rattle.command_line.specs.Answers.{IsDone, Cause, HasCause, EndsRejected, InputFails, AnswersInputs, AnswersUsage, AnswersCommand, ReportsInputs}
-use Rattle.command_line.specs.declared.diagnostic.Diagnostic.{Diagnostic}
+use Rattle.command_files.specs.declared.diagnostic.Diagnostic.{Diagnostic}
 use Rattle.command_language.specs.declared.faults.CommandFault.{CommandFault}
 use Rattle.command_language.specs.declared.faults.CommandFault.TheVariants as command_fault
 use Rattle.command_line.proofs.OneCommand.{one_command, one_inputs}

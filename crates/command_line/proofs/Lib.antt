@@ -6,16 +6,14 @@ pub mod Exactness
 pub mod Running
 pub mod Analysing
 pub mod Profiling
-pub mod Puttings
 pub mod Stating
 pub mod ComparingFiles
 pub mod Certificates
 pub mod CommandFaults
-pub mod Readings
+pub mod TextContents
 pub mod ListedNames
 pub mod MixedRuns
 pub mod MixResults
-pub mod Writings
 pub mod Comparing
 pub mod Paying
 pub mod FirstSteps

@@ -8,7 +8,7 @@ use Rattle.command_language.specs.Lines.{plain_input, broken_at, mix_lines, Tell
 use Rattle.command_language.specs.declared.parts.MixFault.{MixFault}
 use Rattle.command_language.specs.declared.parts.MixFault.TheVariants as mix
 use Rattle.command_language.specs.FaultLine.{mix_command_fault}
-use Rattle.command_line.specs.Reading.{contents, HoldsAll, RejectsReads, one_fails, memory_wanting}
+use Rattle.command_files.specs.Reading.{contents, HoldsAll, RejectsReads, one_fails, memory_wanting}
 use Rattle.command_line.specs.Listing.{listed_name, names_where, listed_names, written_names, third, further_reads, HoldsInputs, RejectsNames, name_fails, names_want_memory, RejectsLines, bad_line, lines_want_memory}
 use Rattle.command_line.specs.ListedTexts.{Lists}
 use Rattle.command_line.specs.Meaning.{RejectsInputs}
@@ -18,7 +18,7 @@ use Rattle.command_line.specs.declared.mix_inputs.ListedTexts.{ListedTexts}
 use Rattle.command_language.specs.declared.faults.CommandFault.{CommandFault}
 use Rattle.command_line.specs.InputTexts.{inputs_in, AreInputs}
 use Rattle.command_line.specs.declared.input_texts.InputTexts.{InputTexts}
-use Rattle.command_line.proofs.Readings.{contents_of_none}
+use Rattle.command_line.proofs.TextContents.{contents_of_none}
 
 -- ---- names and texts in two parts
 

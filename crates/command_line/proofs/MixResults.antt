@@ -5,7 +5,7 @@ use Rattle.std.specs.Global.{Global}
 use Rattle.command_language.specs.Command.{PlainCommand, mix_command, check_mix_command}
 use Rattle.command_language.specs.Lines.{plain_input, broken_at, mix_lines}
 use Rattle.relinking.specs.MixOfRuns.{WeightedInput, AreSomeInputs}
-use Rattle.command_line.specs.Reading.{contents}
+use Rattle.command_files.specs.Reading.{contents}
 use Rattle.command_line.specs.Listing.{names_where, listed_names, third, further_reads, RejectsLines, bad_line, lines_want_memory}
 use Rattle.command_line.specs.ListedTexts.{Lists}
 use Rattle.command_line.specs.MixFile.{inputs_of, of_list, of_runs, of_checked_list, of_checked_runs, RejectsRuns, RejectsCheckedRuns}

@@ -2,7 +2,7 @@
 use Rattle.std.proofs.Common.{◌≡◌, ℕ, List, [], ◌∷◌, codes, Option, Some, None, IfSome, if◌then◌else◌, bytes_eq, refl, sym, subst, ◌∙◌, ◌++◌}
 use Rattle.shelf_io.specs.Shelf.{ShelfView}
 use Rattle.command_language.specs.Command.{PlainCommand, run_command, relink_command, profile_command, compare_command, check_command, mix_command, check_mix_command, gen_command, hex_command, hex_check_command, Spells, IsCommand, Named, named, reads, value_of, show_command, paid_command, trace_command}
-use Rattle.command_line.specs.Reading.{HoldsAll}
+use Rattle.command_files.specs.Reading.{HoldsAll}
 use Rattle.command_line.specs.Listing.{listed_names, written_names, third, further_reads, HoldsInputs}
 use Rattle.command_line.specs.Answers.{ReportsAll, ReportsInputs}
 

@@ -19,7 +19,7 @@ use Rattle.shelf_io.specs.Sink.{SinkView}
 use Rattle.command_language.specs.Command.{PlainCommand, run_command, relink_command, profile_command, compare_command, check_command, mix_command, check_mix_command, gen_command, hex_command, hex_check_command, show_command, paid_command, trace_command, IsCommand, Named, named, writes}
 use Rattle.command_line.specs.Analysed.{Accepts}
 use Rattle.command_line.specs.Listing.{HoldsInputs}
-use Rattle.command_line.specs.Delivery.{SetsAll}
+use Rattle.command_files.specs.Writing.{SetsAll}
 use Rattle.command_line.specs.Meaning.{Yields, runs, relinks, profiles, compares, checks, pays, traces, mixes, checks_mix, shows, generates, writes_hex, agrees}
 use Rattle.command_line.specs.Answers.{IsDone}
 use Rattle.command_line.specs.CompareFiles.{ComparesTo, same_text}

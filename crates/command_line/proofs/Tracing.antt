@@ -34,13 +34,13 @@ use Rattle.relink_core.specs.declared.unit_forms.UnitAt.{UnitAt}
 use Rattle.relink_core.proofs.RealiseLemmas.{prepared}
 use Rattle.compare_runner.specs.Laws.{IsPairedRun}
 use Rattle.relinking.specs.declared.stating.MeasuredProgramme.{MeasuredProgramme}
-use Rattle.address_trace.specs.Marks.{trace_text}
-use Rattle.address_trace.specs.Telling.{TellsTrace}
-use Rattle.address_trace.specs.Tracing.{traced_of}
-use Rattle.address_trace.specs.Laws.{traced_in, TracesFiles, AreAtPlaces, made_places, homes_of, IsTraceable, IsTracedWhole, MovedIsTraced, UnmovedIsTraced, ResultsStart}
-use Rattle.address_trace.specs.declared.marks.TracedStep.{TracedStep}
-use Rattle.address_trace.specs.declared.tracing.TraceText.{TraceText}
-use Rattle.address_trace.proofs.LawLemmas as law
+use Rattle.compare_runner.specs.Marks.{trace_text}
+use Rattle.compare_runner.specs.Telling.{TellsTrace}
+use Rattle.compare_runner.specs.Tracing.{traced_of}
+use Rattle.compare_runner.specs.TraceLaws.{traced_in, TracesFiles, AreAtPlaces, made_places, homes_of, IsTraceable, IsTracedWhole, MovedIsTraced, UnmovedIsTraced, ResultsStart}
+use Rattle.compare_runner.specs.declared.marks.TracedStep.{TracedStep}
+use Rattle.compare_runner.specs.declared.tracing.TraceText.{TraceText}
+use Rattle.compare_runner.proofs.LawLemmas as law
 use Rattle.command_line.specs.Analysed.{IsOpened}
 use Rattle.command_line.specs.CheckFile.{AcceptsChoice}
 use Rattle.command_line.specs.PaidFile.{MakesOf, CountsFor}

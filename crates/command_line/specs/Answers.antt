@@ -7,12 +7,12 @@ use Rattle.shelf_io.specs.Shelf.{ShelfView, LogsFailed}
 use Rattle.relinking.specs.declared.measuring.MeasuredEnd.{MeasuredEnd}
 use Rattle.shelf_io.specs.Sink.{SinkView, PutAll, PutSome}
 use Rattle.shelf_io.specs.declared.shelves.CallKind.TheVariants.{Read}
-use Rattle.command_line.specs.Delivery.{SetsAll, LosesOne, WantsInOne}
+use Rattle.command_files.specs.Writing.{SetsAll, LosesOne, WantsInOne}
 use Rattle.command_line.specs.Meaning.{IsFirst}
 use Rattle.command_line.specs.Performing.{YieldsOf, TellsEndOf}
 use Rattle.command_line.specs.Listing.{all_reads, HoldsInputs, ReadsName}
-use Rattle.command_line.specs.Diagnostic.{IsDiagnosticOf, PutsLine}
-use Rattle.command_line.specs.declared.diagnostic.Diagnostic.{Diagnostic}
+use Rattle.command_files.specs.Diagnostic.{IsDiagnosticOf, PutsLine}
+use Rattle.command_files.specs.declared.diagnostic.Diagnostic.{Diagnostic}
 use Rattle.command_language.specs.declared.faults.CommandFault.{CommandFault}
 use Rattle.command_language.specs.declared.faults.CommandFault.TheVariants as command_fault
 

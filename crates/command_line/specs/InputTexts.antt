@@ -2,7 +2,7 @@
 use Rattle.std.specs.Prelude.{◌≡◌, ℕ, List, ◌++◌, length}
 use Rattle.shelf_io.specs.Shelf.{ShelfView}
 use Rattle.command_language.specs.Command.{PlainCommand, reads}
-use Rattle.command_line.specs.Reading.{contents}
+use Rattle.command_files.specs.Reading.{contents}
 use Rattle.command_line.specs.Listing.{further_reads, HoldsInputs}
 use Rattle.command_line.specs.declared.input_texts.InputTexts.{InputTexts}
 

@@ -1,5 +1,3 @@
-pub mod Diagnostic
-pub mod Reading
 pub mod Listing
 pub mod Delivery
 pub mod RunFile

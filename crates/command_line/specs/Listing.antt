@@ -6,7 +6,7 @@ use Rattle.command_language.specs.Command.{PlainCommand, mix_command, check_mix_
 use Rattle.command_language.specs.Lines.{MixLine, broken_at, mix_lines}
 use Rattle.command_language.specs.declared.faults.CommandFault.{CommandFault}
 use Rattle.command_language.specs.declared.faults.CommandFault.TheVariants as command_fault
-use Rattle.command_line.specs.Reading.{HoldsAll, IsReached}
+use Rattle.command_files.specs.Reading.{HoldsAll, IsReached}
 
 -- a name that a line lists has the place of the text
 abbrev pub listed_name : MixLine → Named

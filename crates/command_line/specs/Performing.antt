@@ -5,14 +5,14 @@ use Rattle.relinking.specs.declared.measuring.MeasuredEnd.{MeasuredEnd}
 use Rattle.shelf_io.specs.Sink.{SinkView, PutAll, PutSome}
 use Rattle.printed_lines.specs.Texts.{text_of}
 use Rattle.command_language.specs.Command.{PlainCommand, reads, writes}
-use Rattle.command_line.specs.Reading.{RejectsReads}
+use Rattle.command_files.specs.Reading.{RejectsReads}
 use Rattle.command_line.specs.Listing.{further_reads, HoldsInputs, RejectsNames}
 use Rattle.command_line.specs.Meaning.{Yields, RejectsInputs}
 use Rattle.command_line.specs.Measured.{TellsEnd}
-use Rattle.command_line.specs.Delivery.{ArePrepared, SetsAll, LosesOne, WantsInOne}
-use Rattle.command_line.specs.Diagnostic.{IsDiagnosticOf}
+use Rattle.command_files.specs.Writing.{ArePrepared, SetsAll, LosesOne, WantsInOne}
+use Rattle.command_files.specs.Diagnostic.{IsDiagnosticOf}
 use Rattle.command_line.specs.declared.delivery.PreparedResult.{PreparedResult}
-use Rattle.command_line.specs.declared.diagnostic.Diagnostic.{Diagnostic}
+use Rattle.command_files.specs.declared.diagnostic.Diagnostic.{Diagnostic}
 use Rattle.command_language.specs.declared.faults.CommandFault.{CommandFault}
 use Rattle.command_language.specs.declared.faults.CommandFault.TheVariants as command_fault
 

@@ -15,12 +15,12 @@ use Rattle.relink_core.specs.UnitMaps.{MakesWithUnits}
 use Rattle.relink_core.specs.declared.unit_forms.UnitAt.{UnitAt}
 use Rattle.result_laws.specs.ResultLaws.{most_steps}
 use Rattle.compare_runner.specs.Laws.{IsPairedRun}
-use Rattle.address_trace.specs.Comings.{IsAtForm}
-use Rattle.address_trace.specs.Seeking.{StartsWithin}
-use Rattle.address_trace.specs.Tracing.{traced_of, region_in, IsTrace}
-use Rattle.address_trace.specs.Marks.{trace_text}
-use Rattle.address_trace.specs.Laws.{TracesFiles, TakesFew, AreAtPlaces, made_places}
-use Rattle.address_trace.specs.declared.marks.TracedStep.{TracedStep}
+use Rattle.compare_runner.specs.Comings.{IsAtForm}
+use Rattle.compare_runner.specs.Seeking.{StartsWithin}
+use Rattle.compare_runner.specs.Tracing.{traced_of, region_in, IsTrace}
+use Rattle.compare_runner.specs.Marks.{trace_text}
+use Rattle.compare_runner.specs.TraceLaws.{TracesFiles, TakesFew, AreAtPlaces, made_places}
+use Rattle.compare_runner.specs.declared.marks.TracedStep.{TracedStep}
 use Rattle.command_line.specs.Analysed.{Accepts}
 use Rattle.command_line.specs.declared.opened.Opened.{Opened}
 use Rattle.command_line.specs.PaidFile.{MakesOf}

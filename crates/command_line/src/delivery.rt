@@ -1,46 +1,17 @@
 ghost use Rattle.std.specs.Prelude.{◌≡◌, ◌∷◌, [], OnOk, IfOk, IfErr};
 ghost use Rattle.command_language.specs.Command.{named};
-ghost use Rattle.command_line.specs.{Diagnostic.{IsDiagnosticOf}, Delivery.{ArePrepared, SetsPrepared, FailsToWrite, FailsOnce, DeliversAll, FailsToDeliver}};
-ghost use Rattle.command_language.specs.declared.faults.CommandFault.TheVariants as command_fault;
-ghost use Rattle.shelf_io.specs.Shelf.{SetsName};
+ghost use Rattle.command_files.specs.Writing.{ArePrepared};
+ghost use Rattle.command_line.specs.Delivery.{DeliversAll, FailsToDeliver};
 
 use crate::chosen::ChosenPlacement;
-use crate::diagnostic::Diagnostic;
 use crate::opened::Opened;
-use crate::printing::put_text;
 use crate::relinked_file::RelinkedFile;
+use command_files::{Diagnostic, Output, put_text, write_all};
 use command_language::CommandFault;
 use printed_lines::Text;
 use relinking::MeasuredEnd;
-use shelf_io::{Shelf, ShelfFault, Sink};
+use shelf_io::{Shelf, Sink};
 use std::alloc::{AllocError, Global};
-
-/// What is to be written under a name, with the fault of the write, so that this takes no memory.
-#[derive(Drop)]
-pub struct Output<'a> {
-    pub name: &'a str,
-    pub bytes: Vec<u8>,
-    pub fault: Diagnostic,
-}
-
-impl<'a> Output<'a> {
-    ghost use Rattle.std.specs.Prelude.{IfOk};
-    ghost use Rattle.command_language.specs.Command.{named};
-    ghost use Rattle.command_line.specs.Delivery.{IsOutput};
-
-    /// What is to be written under the name at a place of the command line.
-    pub fn new(
-        alloc: Global,
-        place: u32,
-        name: &'a str,
-        bytes: Vec<u8>,
-    ) -> Result<Output<'a>, AllocError>
-        ensures { IfOk result (IsOutput (named place name.now) bytes.items) }
-    {
-        let fault = Diagnostic::try_new(alloc, &CommandFault::Write { place })?;
-        Ok(Output { name, bytes, fault })
-    }
-}
 
 /// A result that is ready to be written and printed, with the faults of the steps that may still
 /// fail.
@@ -63,7 +34,7 @@ impl<'a> PreparedResult<'a> {
     ghost use Rattle.std.specs.Prelude.{◌≡◌, ◌∷◌, [], IfOk};
     ghost use Rattle.command_language.specs.Command.{named};
     ghost use Rattle.printed_lines.specs.Texts.{text_of};
-    ghost use Rattle.command_line.specs.{Delivery.{ArePrepared}, Diagnostic.{IsDiagnosticOf}};
+    ghost use Rattle.command_files.specs.{Writing.{ArePrepared}, Diagnostic.{IsDiagnosticOf}};
     ghost use Rattle.command_language.specs.declared.faults.CommandFault.TheVariants as command_fault;
 
     /// A result that is only printed.
@@ -176,30 +147,5 @@ pub fn deliver<S: Shelf, K: Sink>(
             Err(_) => Err(prepared.print_fault),
         },
         Err(diagnostic) => Err(diagnostic),
-    }
-}
-
-/// Writes the outputs, up to the first whose write fails.
-fn write_all<S: Shelf>(outputs: Vec<Output<'_>>, shelf: &mut S) -> Result<(), Diagnostic>
-    ensures ok { OnOk result (SetsPrepared outputs.entry.items (S.view shelf.old) (S.view shelf.new)) }
-    ensures err { IfErr result (FailsToWrite outputs.entry.items (S.view shelf.old) (S.view shelf.new)) }
-{
-    for output in outputs {
-        match write_one(output, shelf) {
-            Ok(()) => {}
-            Err(diagnostic) => return Err(diagnostic),
-        }
-    }
-    Ok(())
-}
-
-fn write_one<S: Shelf>(output: Output<'_>, shelf: &mut S) -> Result<(), Diagnostic>
-    ensures ok { OnOk result (SetsName output.entry.name.now output.entry.bytes.items (S.view shelf.old) (S.view shelf.new)) }
-    ensures err { IfErr result (FailsOnce output.entry (S.view shelf.old) (S.view shelf.new)) }
-{
-    match shelf.write(output.name, output.bytes.as_slice()) {
-        Ok(()) => Ok(()),
-        Err(ShelfFault::Failed) => Err(output.fault),
-        Err(ShelfFault::Memory) => Err(Diagnostic::Memory),
     }
 }

@@ -1,7 +1,8 @@
 ghost use Rattle.std.specs.Prelude.{◌≡◌, IfOk, IfErr, length, map};
 ghost use Rattle.command_language.specs.{Command.{plain_command, plain_named, reads}, Lines.{plain_input, names_of}};
 ghost use Rattle.relinking.specs.MixOfRuns as together;
-ghost use Rattle.command_line.specs.{Reading.{contents}, Listing.{listed_name, listed_names, further_reads, RejectsLines}, Performing.{RejectsList}, MixFile.{inputs_of}};
+ghost use Rattle.command_files.specs.Reading.{contents};
+ghost use Rattle.command_line.specs.{Listing.{listed_name, listed_names, further_reads, RejectsLines}, Performing.{RejectsList}, MixFile.{inputs_of}};
 
 use command_language::{Command, CommandFault, MixInput, NamedWord, read_mix};
 use relinking::WeightedBytes;

@@ -1,6 +1,7 @@
 ghost use Rattle.std.specs.Prelude.{◌≡◌, ◌++◌, ◌∷◌, [], ℕ, List, IfOk, IfErr, length};
 ghost use Rattle.command_language.specs.Command.{mix_command, check_mix_command};
-ghost use Rattle.command_line.specs.{Reading.{contents}, Listing.{listed_names, third}, ListedTexts.{Lists}, Meaning.{RejectsInputs}, InputTexts.{inputs_in}, Performing.{IsPreparedFor}};
+ghost use Rattle.command_files.specs.Reading.{contents};
+ghost use Rattle.command_line.specs.{Listing.{listed_names, third}, ListedTexts.{Lists}, Meaning.{RejectsInputs}, InputTexts.{inputs_in}, Performing.{IsPreparedFor}};
 
 use crate::check_mix_file::check_mix_file;
 use crate::delivery::PreparedResult;

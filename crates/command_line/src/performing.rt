@@ -1,9 +1,10 @@
 ghost use Rattle.std.specs.Prelude.{OnOk, IfOk, IfErr};
 ghost use Rattle.command_language.specs.Command.{HasNumbers, plain_command};
-ghost use Rattle.command_line.specs.{Diagnostic.{IsDiagnosticOrMemory}, InputTexts.{AreInputs}, Performing.{Performs, TellsEndOf, IsRejectedBy}};
+ghost use Rattle.command_files.specs.Diagnostic.{IsDiagnosticOrMemory};
+ghost use Rattle.command_line.specs.{InputTexts.{AreInputs}, Performing.{Performs, TellsEndOf, IsRejectedBy}};
 
 use crate::delivery::deliver;
-use crate::diagnostic::Diagnostic;
+use command_files::Diagnostic;
 use crate::input_texts::InputTexts;
 use crate::observing::Observer;
 use crate::reading::read_inputs;

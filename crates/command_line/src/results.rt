@@ -1,6 +1,7 @@
 ghost use Rattle.std.specs.Prelude.{◌≡◌, [], ◌≤◌, ℕ, List, IfOk, IfErr, length, string_bytes, ◌∷◌};
 ghost use Rattle.command_language.specs.Command.{HasNumbers, plain_command, reads, run_command, relink_command, profile_command, compare_command, check_command, gen_command, hex_command, hex_check_command, show_command, paid_command, trace_command};
-ghost use Rattle.command_line.specs.{Reading.{contents}, Meaning.{RejectsInputs, kernels_text}, Listing.{further_reads}, InputTexts.{inputs_in}, Performing.{IsPreparedFor}};
+ghost use Rattle.command_files.specs.Reading.{contents};
+ghost use Rattle.command_line.specs.{Meaning.{RejectsInputs, kernels_text}, Listing.{further_reads}, InputTexts.{inputs_in}, Performing.{IsPreparedFor}};
 
 use crate::check_file::check_file;
 use crate::compare_files::compare_files;

@@ -3,3 +3,10 @@ pub mod Laws
 pub mod Headline
 pub mod HeadlineLaws
 pub mod Relative
+pub mod Comings
+pub mod Marks
+pub mod Tracing
+pub mod Telling
+pub mod Seeking
+pub mod Stepping
+pub mod TraceLaws

@@ -18,7 +18,7 @@ use Rattle.relink_core.specs.UnitMaps.{MakesWithUnits, hands_on, moves}
 use Rattle.relink_core.specs.declared.realising.Realised.{Realised}
 use Rattle.relink_core.specs.declared.unit_forms.UnitAt.{UnitAt}
 use Rattle.relinking.specs.declared.stating.MeasuredProgramme.{MeasuredProgramme}
-use Rattle.address_trace.specs.Laws.{made_places}
+use Rattle.compare_runner.specs.TraceLaws.{made_places}
 use Rattle.command_line.specs.Analysed.{IsOpened}
 use Rattle.command_line.specs.CheckFile.{AcceptsChoice}
 use Rattle.command_line.specs.PaidFile.{CountsFor}

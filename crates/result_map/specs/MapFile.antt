@@ -13,7 +13,7 @@ use Rattle.relink_core.specs.Placed.{Taken, taken_of}
 use Rattle.relink_core.specs.UnitMaps.{MakesWithUnits}
 use Rattle.relink_core.specs.declared.realising.Realised.{Realised}
 use Rattle.relink_core.specs.declared.unit_forms.UnitAt.{UnitAt}
-use Rattle.address_trace.specs.Laws.{made_places}
+use Rattle.compare_runner.specs.TraceLaws.{made_places}
 use Rattle.command_line.specs.Analysed.{IsOpened}
 use Rattle.command_line.specs.PaidFile.{MakesOf}
 use Rattle.command_line.specs.TraceFile.{HasUnits}

@@ -6,8 +6,8 @@ mod lines;
 mod mapping;
 mod rows;
 
+use command_files::Diagnostic;
 use command_language::CommandFault;
-use command_line::Diagnostic;
 use mapping::map_file;
 use shelf_io::{DirShelf, OutSink, Shelf, ShelfFault, Sink, words};
 use std::alloc::Global;

@@ -1,7 +1,7 @@
 use Rattle.std.proofs.Common.{◌≡◌, ◌∷◌, [], List, ℕ, sym, ap, subst, length, ◌∙◌, arith}
 use Rattle.std.proofs.lemmas.List.{length-map}
 use Rattle.command_line.specs.Listing.{listed_names, RejectsLines}
-use Rattle.command_line.specs.Reading.{contents}
+use Rattle.command_files.specs.Reading.{contents}
 use Rattle.command_line.proofs.MixResults.{third_text, mix_list_rejected, check_mix_list_rejected}
 use Rattle.command_line.proofs.mix_inputs.listed_names.Goals as goal
 

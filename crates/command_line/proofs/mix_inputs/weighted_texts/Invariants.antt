@@ -2,7 +2,7 @@ use Rattle.std.proofs.Common.{◌≡◌, ◌++◌, map, drop}
 use Rattle.relinking.specs.MixOfRuns as together
 use Rattle.command_language.specs.Lines.{plain_input}
 use Rattle.command_line.specs.MixFile.{inputs_of}
-use Rattle.command_line.specs.Reading.{contents}
+use Rattle.command_files.specs.Reading.{contents}
 use Rattle.command_line.proofs.mix_inputs.weighted_texts.Given as goal
 
 -- the inputs, and those of the lines and texts that are left, are all

@@ -8,7 +8,7 @@ use Rattle.command_line.specs.Listing.{third}
 use Rattle.command_line.specs.Measured.{measures_none}
 use Rattle.command_line.specs.Meaning.{RejectsInputs, checks_mix}
 use Rattle.command_line.specs.MixFile.{inputs_of, ChecksMixTo, RejectsCheckedRuns}
-use Rattle.command_line.specs.Reading.{contents}
+use Rattle.command_files.specs.Reading.{contents}
 use Rattle.command_line.proofs.MixResults.{four_with_third, inputs_listed, some_listed, check_mix_rejected}
 use Rattle.command_line.proofs.mix_results.checked_result.Goals as goal
 

@@ -8,7 +8,7 @@ use Rattle.command_line.specs.Listing.{third}
 use Rattle.command_line.specs.Measured.{measures_none}
 use Rattle.command_line.specs.Meaning.{RejectsInputs, mixes}
 use Rattle.command_line.specs.MixFile.{inputs_of, MixesTo, RejectsRuns}
-use Rattle.command_line.specs.Reading.{contents}
+use Rattle.command_files.specs.Reading.{contents}
 use Rattle.command_line.proofs.MixResults.{three_with_third, inputs_listed, some_listed, mix_rejected}
 use Rattle.printed_lines.specs.Texts.{text_of}
 use Rattle.command_line.proofs.mix_results.mixed_result.Goals as goal

@@ -3,7 +3,7 @@ use Rattle.std.proofs.lemmas.List.{length-map}
 use Rattle.command_language.specs.Lines.{plain_input, broken_at, mix_lines}
 use Rattle.command_language.specs.FaultLine.{mix_command_fault}
 use Rattle.command_line.specs.Listing.{third, RejectsLines}
-use Rattle.command_line.specs.Reading.{contents}
+use Rattle.command_files.specs.Reading.{contents}
 use Rattle.command_line.proofs.ListedNames.{lines_rejected, lists_of}
 use Rattle.command_line.proofs.MixResults.{third_of, check_mix_broken}
 use Rattle.command_line.proofs.mix_results.prepare_check_mix.Goals as goal

@@ -3,7 +3,7 @@ use Rattle.std.proofs.lemmas.List.{length-map}
 use Rattle.command_language.specs.Command.{Named, plain_named, plain_command, reads}
 use Rattle.command_line.specs.Listing.{further_reads}
 use Rattle.command_line.specs.Performing.{RejectsListedOf}
-use Rattle.command_line.specs.Reading.{contents, HoldsAll, RejectsReads}
+use Rattle.command_files.specs.Reading.{contents, HoldsAll, RejectsReads}
 use Rattle.command_line.proofs.ListedNames.{held_size, inputs_read, inputs_rejected, words_rejected}
 use Rattle.command_line.proofs.reading.read_inputs.Goals as goal
 

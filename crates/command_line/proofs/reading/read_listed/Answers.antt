@@ -1,7 +1,7 @@
 use Rattle.std.proofs.Common.{List, map, ap, refl, subst, ◌∙◌}
 use Rattle.command_language.specs.Command.{Named, plain_named}
 use Rattle.command_line.specs.Performing.{list_fails, read_fails}
-use Rattle.command_line.specs.Reading.{contents, HoldsAll, RejectsReads}
+use Rattle.command_files.specs.Reading.{contents, HoldsAll, RejectsReads}
 use Rattle.command_line.proofs.reading.read_listed.Goals as goal
 
 pub returns-in-Ok-read_all-clause-ok : goal.returns-in-Ok-read_all-clause-ok

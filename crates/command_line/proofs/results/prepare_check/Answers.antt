@@ -4,7 +4,7 @@ use Rattle.command_language.specs.Command.{check_command}
 use Rattle.command_line.specs.Measured.{check_ends}
 use Rattle.command_line.specs.Meaning.{RejectsInputs, checks}
 use Rattle.command_line.proofs.CommandFaults.{certificate_rejected}
-use Rattle.command_line.proofs.Readings.{contents_of_four}
+use Rattle.command_line.proofs.TextContents.{contents_of_four}
 use Rattle.command_line.proofs.results.prepare_check.Goals as goal
 
 pub returns-in_ok-printed-in-Ok-clause-ok : goal.returns-in_ok-printed-in-Ok-clause-ok

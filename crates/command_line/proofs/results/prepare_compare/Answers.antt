@@ -3,7 +3,7 @@ use Rattle.command_language.specs.Command.{compare_command}
 use Rattle.command_line.specs.Measured.{measures_none}
 use Rattle.command_line.specs.Meaning.{RejectsInputs, compares}
 use Rattle.command_line.proofs.CommandFaults.{compare_rejected}
-use Rattle.command_line.proofs.Readings.{contents_of_four}
+use Rattle.command_line.proofs.TextContents.{contents_of_four}
 use Rattle.command_line.proofs.results.prepare_compare.Goals as goal
 
 pub returns-in_ok-printed-in-Ok-clause-ok : goal.returns-in_ok-printed-in-Ok-clause-ok

@@ -3,7 +3,7 @@ use Rattle.command_language.specs.Command.{hex_command}
 use Rattle.command_line.specs.Measured.{measures_none}
 use Rattle.command_line.specs.Meaning.{RejectsInputs, writes_hex}
 use Rattle.command_line.proofs.CommandFaults.{hex_rejected}
-use Rattle.command_line.proofs.Readings.{contents_of_one}
+use Rattle.command_line.proofs.TextContents.{contents_of_one}
 use Rattle.command_line.proofs.results.prepare_hex.Goals as goal
 
 pub returns-in_ok-written-in-Ok-clause-ok : goal.returns-in_ok-written-in-Ok-clause-ok

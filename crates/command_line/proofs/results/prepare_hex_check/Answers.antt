@@ -3,7 +3,7 @@ use Rattle.command_language.specs.Command.{hex_check_command}
 use Rattle.command_line.specs.Measured.{measures_none}
 use Rattle.command_line.specs.Meaning.{RejectsInputs, agrees}
 use Rattle.command_line.proofs.CommandFaults.{check_rejected}
-use Rattle.command_line.proofs.Readings.{contents_of_two}
+use Rattle.command_line.proofs.TextContents.{contents_of_two}
 use Rattle.command_line.proofs.results.prepare_hex_check.Goals as goal
 
 pub returns-in_ok-printed-in-Ok-clause-ok : goal.returns-in_ok-printed-in-Ok-clause-ok

@@ -4,7 +4,7 @@ use Rattle.command_language.specs.Command.{paid_command}
 use Rattle.command_line.specs.Measured.{paid_ends}
 use Rattle.command_line.specs.Meaning.{RejectsInputs, pays}
 use Rattle.command_line.proofs.CommandFaults.{paid_rejected}
-use Rattle.command_line.proofs.Readings.{contents_of_four}
+use Rattle.command_line.proofs.TextContents.{contents_of_four}
 use Rattle.command_line.proofs.results.prepare_paid.Goals as goal
 
 pub returns-in_ok-printed-in-Ok-clause-ok : goal.returns-in_ok-printed-in-Ok-clause-ok

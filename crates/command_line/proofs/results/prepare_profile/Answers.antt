@@ -4,7 +4,7 @@ use Rattle.command_language.specs.Command.{profile_command}
 use Rattle.command_line.specs.Measured.{profile_ends}
 use Rattle.command_line.specs.Meaning.{RejectsInputs, profiles}
 use Rattle.command_line.proofs.CommandFaults.{profile_rejected}
-use Rattle.command_line.proofs.Readings.{contents_of_three}
+use Rattle.command_line.proofs.TextContents.{contents_of_three}
 use Rattle.command_line.proofs.results.prepare_profile.Goals as goal
 
 pub returns-in_ok-printed-in-Ok-clause-ok : goal.returns-in_ok-printed-in-Ok-clause-ok

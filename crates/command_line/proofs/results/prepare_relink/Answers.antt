@@ -4,7 +4,7 @@ use Rattle.command_language.specs.Command.{relink_command}
 use Rattle.command_line.specs.Measured.{relink_ends}
 use Rattle.command_line.specs.Meaning.{RejectsInputs, relinks}
 use Rattle.command_line.proofs.CommandFaults.{relink_rejected}
-use Rattle.command_line.proofs.Readings.{contents_of_three}
+use Rattle.command_line.proofs.TextContents.{contents_of_three}
 use Rattle.command_line.proofs.results.prepare_relink.Goals as goal
 
 pub returns-in_ok-relinked-in-Ok-clause-ok : goal.returns-in_ok-relinked-in-Ok-clause-ok

@@ -2,7 +2,7 @@ use Rattle.std.proofs.Common.{◌≡◌, ℕ, List, length, subst}
 use Rattle.command_language.specs.Command.{gen_command}
 use Rattle.command_line.specs.Performing.{IsPreparedFor}
 use Rattle.command_line.proofs.ListedNames.{unlisted, unlisted_fails}
-use Rattle.command_line.proofs.Readings.{contents_of_none}
+use Rattle.command_line.proofs.TextContents.{contents_of_none}
 use Rattle.command_line.proofs.results.prepare_result.Goals as goal
 
 pub returns-in-Ok-clause-ok : goal.returns-in-Ok-clause-ok

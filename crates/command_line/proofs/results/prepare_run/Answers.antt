@@ -3,7 +3,7 @@ use Rattle.command_language.specs.Command.{run_command}
 use Rattle.command_line.specs.Measured.{measures_none}
 use Rattle.command_line.specs.Meaning.{RejectsInputs, runs}
 use Rattle.command_line.proofs.CommandFaults.{run_rejected}
-use Rattle.command_line.proofs.Readings.{contents_of_three}
+use Rattle.command_line.proofs.TextContents.{contents_of_three}
 use Rattle.command_line.proofs.results.prepare_run.Goals as goal
 
 pub returns-in_ok-written-in-Ok-clause-ok : goal.returns-in_ok-written-in-Ok-clause-ok

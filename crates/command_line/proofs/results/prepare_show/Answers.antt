@@ -3,7 +3,7 @@ use Rattle.command_language.specs.Command.{show_command}
 use Rattle.command_line.specs.Measured.{measures_none}
 use Rattle.command_line.specs.Meaning.{RejectsInputs, shows}
 use Rattle.command_line.proofs.CommandFaults.{show_rejected}
-use Rattle.command_line.proofs.Readings.{contents_of_two}
+use Rattle.command_line.proofs.TextContents.{contents_of_two}
 use Rattle.command_line.proofs.results.prepare_show.Goals as goal
 
 pub returns-in_ok-printed-in-Ok-clause-ok : goal.returns-in_ok-printed-in-Ok-clause-ok

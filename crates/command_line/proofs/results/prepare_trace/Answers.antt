@@ -4,7 +4,7 @@ use Rattle.command_language.specs.Command.{trace_command}
 use Rattle.command_line.specs.Measured.{trace_ends}
 use Rattle.command_line.specs.Meaning.{RejectsInputs, traces}
 use Rattle.command_line.proofs.CommandFaults.{trace_rejected}
-use Rattle.command_line.proofs.Readings.{contents_of_four}
+use Rattle.command_line.proofs.TextContents.{contents_of_four}
 use Rattle.command_line.proofs.results.prepare_trace.Goals as goal
 
 pub returns-in_ok-made-in-Ok-clause-ok : goal.returns-in_ok-made-in-Ok-clause-ok

@@ -1,0 +1,4 @@
+pub mod Diagnostics
+pub mod Puttings
+pub mod Readings
+pub mod Writings

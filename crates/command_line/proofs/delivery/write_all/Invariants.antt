@@ -1,5 +1,0 @@
-use Rattle.command_line.specs.Delivery.{SetsPrepared}
-use Rattle.command_line.proofs.delivery.write_all.Given as goal
-
-abbrev pub invariant-loop-output : goal.invariant-loop-output
-invariant-loop-output g l = SetsPrepared l.yielded (g.S.Shelf.view l.initial.shelf) (g.S.Shelf.view l.shelf)

@@ -1,6 +1,0 @@
-use Rattle.std.proofs.Common.{inr}
-use Rattle.command_line.proofs.Endings.{memory_prepared}
-use Rattle.command_line.proofs.diagnostic.Diagnostic.new.Goals as goal
-
-pub returns-in-Err : goal.returns-in-Err
-returns-in-Err c = inr memory_prepared
