@@ -3,7 +3,7 @@ ghost use Rattle.command_files.specs.Writing.{SetsPrepared, FailsToWrite, FailsO
 ghost use Rattle.shelf_io.specs.Shelf.{SetsName};
 
 use crate::diagnostic::Diagnostic;
-use command_language::CommandFault;
+use command_language::{CommandFault, NamedWord};
 use shelf_io::{Shelf, ShelfFault};
 use std::alloc::{AllocError, Global};
 
@@ -17,20 +17,24 @@ pub struct Output<'a> {
 
 impl<'a> Output<'a> {
     ghost use Rattle.std.specs.Prelude.{IfOk};
-    ghost use Rattle.command_language.specs.Command.{named};
+    ghost use Rattle.command_language.specs.Command.{plain_named};
     ghost use Rattle.command_files.specs.Writing.{IsOutput};
 
-    /// What is to be written under the name at a place of the command line.
+    /// What is to be written under a name.
     pub fn new(
         alloc: Global,
-        place: u32,
-        name: &'a str,
+        named: NamedWord<'a>,
         bytes: Vec<u8>,
     ) -> Result<Output<'a>, AllocError>
-        ensures { IfOk result (IsOutput (named place name.now) bytes.items) }
+        ensures { IfOk result (IsOutput (plain_named named.entry) bytes.items) }
     {
+        let place = named.place;
         let fault = Diagnostic::try_new(alloc, &CommandFault::Write { place })?;
-        Ok(Output { name, bytes, fault })
+        Ok(Output {
+            name: named.name,
+            bytes,
+            fault,
+        })
     }
 }
 

@@ -7,7 +7,7 @@ use crate::chosen::ChosenPlacement;
 use crate::opened::Opened;
 use crate::relinked_file::RelinkedFile;
 use command_files::{Diagnostic, Output, put_text, write_all};
-use command_language::CommandFault;
+use command_language::{CommandFault, NamedWord};
 use printed_lines::Text;
 use relinking::MeasuredEnd;
 use shelf_io::{Shelf, Sink};
@@ -32,7 +32,7 @@ pub struct PreparedResult<'a> {
 
 impl<'a> PreparedResult<'a> {
     ghost use Rattle.std.specs.Prelude.{◌≡◌, ◌∷◌, [], IfOk};
-    ghost use Rattle.command_language.specs.Command.{named};
+    ghost use Rattle.command_language.specs.Command.{named, plain_named};
     ghost use Rattle.printed_lines.specs.Texts.{text_of};
     ghost use Rattle.command_files.specs.{Writing.{ArePrepared}, Diagnostic.{IsDiagnosticOf}};
     ghost use Rattle.command_language.specs.declared.faults.CommandFault.TheVariants as command_fault;
@@ -61,21 +61,21 @@ impl<'a> PreparedResult<'a> {
         })
     }
 
-    /// A result that is written under the name at a place of the command line, with a line that is printed.
+    /// A result that is written under a name, with a line that is printed.
     pub fn written(
         alloc: Global,
-        place: u32,
-        name: &'a str,
+        output: NamedWord<'a>,
         bytes: Vec<u8>,
         line: Vec<u8>,
         measured: Option<MeasuredEnd>,
+        opened: Option<Opened<'a>>,
     ) -> Result<PreparedResult<'a>, AllocError>
-        ensures outputs { IfOk result (λ prepared. ArePrepared (named place name.now ∷ []) (bytes.items ∷ []) prepared.outputs.items) }
+        ensures outputs { IfOk result (λ prepared. ArePrepared (plain_named output.entry ∷ []) (bytes.items ∷ []) prepared.outputs.items) }
         ensures text { IfOk result (λ prepared. text_of prepared.text ≡ line.items) }
         ensures print_fault { IfOk result (λ prepared. IsDiagnosticOf (command_fault.Write 0) prepared.print_fault) }
         ensures measured { IfOk result (λ prepared. prepared.measured ≡ measured) }
     {
-        let output = Output::new(alloc, place, name, bytes)?;
+        let output = Output::new(alloc, output, bytes)?;
         let print_fault = Diagnostic::try_new(alloc, &CommandFault::Write { place: 0 })?;
         let outputs = vec![in alloc; output]?;
         Ok(PreparedResult {
@@ -84,7 +84,7 @@ impl<'a> PreparedResult<'a> {
             print_fault,
             measured,
             chosen: None,
-            opened: None,
+            opened,
         })
     }
 
@@ -123,8 +123,16 @@ fn relinked_outputs<'a>(
 ) -> Result<Vec<Output<'a>>, AllocError>
     ensures { IfOk result (λ outputs. ArePrepared (named 5 cert.now ∷ named 4 out.now ∷ []) (certificate.items ∷ file.items ∷ []) outputs.items) }
 {
-    let first = Output::new(alloc, 5, cert, certificate)?;
-    let second = Output::new(alloc, 4, out, file)?;
+    let cert = NamedWord {
+        place: 5,
+        name: cert,
+    };
+    let out = NamedWord {
+        place: 4,
+        name: out,
+    };
+    let first = Output::new(alloc, cert, certificate)?;
+    let second = Output::new(alloc, out, file)?;
     Ok(vec![in alloc; first, second]?)
 }
 

@@ -15,7 +15,7 @@ use crate::relink_file::relink_file;
 use crate::run_file::run_file;
 use crate::show_file::show_file;
 use crate::trace_file::trace_file;
-use command_language::{Command, CommandFault};
+use command_language::{Command, CommandFault, NamedWord};
 use printed_lines::Text;
 use shelf_io::Progress;
 use std::alloc::{AllocError, Global};
@@ -107,7 +107,11 @@ fn prepare_run<'a>(
     match run_file(alloc, &texts[0], &texts[1], &texts[2]) {
         Ok(run) => {
             let line = run.line.into_bytes();
-            Ok(PreparedResult::written(alloc, 4, out, run.output, line, None)?)
+            let out = NamedWord {
+                place: 4,
+                name: out,
+            };
+            Ok(PreparedResult::written(alloc, out, run.output, line, None, None)?)
         }
         Err(fault) => Err(fault),
     }
@@ -233,9 +237,12 @@ fn prepare_trace<'a>(
         Ok(traced) => {
             let line = traced.line.into_bytes();
             let end = Some(traced.end);
-            let mut made = PreparedResult::written(alloc, 6, out, traced.text, line, end)?;
-            made.opened = Some(traced.opened);
-            Ok(made)
+            let opened = Some(traced.opened);
+            let out = NamedWord {
+                place: 6,
+                name: out,
+            };
+            Ok(PreparedResult::written(alloc, out, traced.text, line, end, opened)?)
         }
         Err(fault) => Err(fault),
     }
@@ -270,7 +277,12 @@ fn prepare_gen<'a>(
 {
     let file = workload(alloc, seed, kernels)?;
     let text = kernels_line(alloc, kernels)?;
-    Ok(PreparedResult::written(alloc, 3, out, file, text.into_bytes(), None)?)
+    let line = text.into_bytes();
+    let out = NamedWord {
+        place: 3,
+        name: out,
+    };
+    Ok(PreparedResult::written(alloc, out, file, line, None, None)?)
 }
 
 /// The line that tells how many kernels a generated file has.
@@ -294,7 +306,11 @@ fn prepare_hex<'a>(
     match hex_file(alloc, &texts[0]) {
         Ok(hex) => {
             let line = hex.line.into_bytes();
-            Ok(PreparedResult::written(alloc, 2, out, hex.text, line, None)?)
+            let out = NamedWord {
+                place: 2,
+                name: out,
+            };
+            Ok(PreparedResult::written(alloc, out, hex.text, line, None, None)?)
         }
         Err(fault) => Err(fault),
     }
