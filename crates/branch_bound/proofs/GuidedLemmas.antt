@@ -6,11 +6,11 @@ use Rattle.placement_programme.specs.Plain.{PlainSide, PlainProgramme, PlainChoi
 use Rattle.certificate_checker.specs.Fixings.{is_free}
 use Rattle.certificate_checker.specs.Shows.{all_free, IsAccepted}
 use Rattle.certificate_checker.specs.declared.fixings.Fixing.{Fixing}
+use Rattle.lagrangian_bound.specs.declared.guiding.NodeBound.{NodeBound}
 use Rattle.branch_bound.specs.Guided.{Gains, Asks, Stand, Spends, SearchesSide, SearchesOn}
 use Rattle.branch_bound.specs.FirstSearch.{nodes_within, SearchesBoth, FirstSearch, IfUnfinished}
 use Rattle.branch_bound.specs.declared.side_visiting.Round.{Round}
 use Rattle.branch_bound.specs.declared.side_visiting.Round.TheVariants.{Certified, Unfinished}
-use Rattle.branch_bound.specs.declared.guiding.NodeBound.{NodeBound}
 use Rattle.branch_bound.specs.declared.side_visiting.Visit.{Visit}
 use Rattle.branch_bound.proofs.ListLemmas.{all_free_few}
 

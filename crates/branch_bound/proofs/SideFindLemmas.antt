@@ -8,12 +8,12 @@ use Rattle.certificate_checker.specs.Fixings.{fixing_of, is_free}
 use Rattle.certificate_checker.specs.Rules.{BranchHolds}
 use Rattle.certificate_checker.specs.declared.fixings.Fixing.{Fixing}
 use Rattle.certificate_checker.specs.declared.fixings.Fixing.TheVariants.{Zero, One, Free}
+use Rattle.lagrangian_bound.specs.declared.guiding.NodeBound.{NodeBound}
 use Rattle.branch_bound.specs.Guided.{Spends, stand, spent, stuck, closed, broken, branched}
 use Rattle.branch_bound.specs.Incumbents.{IsSound, GoesOn}
 use Rattle.branch_bound.specs.SideStands.{is_side_ended, number_itself, IsOpenedBy, FindsBy, IsOfSideVars, CanStepBack, SideStands, side_ahead}
 use Rattle.branch_bound.specs.Trails.{steps_on, nodes_on, place_of, IsBehind}
 use Rattle.branch_bound.specs.Visits.{ShownWithin}
-use Rattle.branch_bound.specs.declared.guiding.NodeBound.{NodeBound}
 use Rattle.branch_bound.specs.declared.open_branches.OpenBranch.{OpenBranch}
 use Rattle.branch_bound.specs.declared.side_incumbents.Incumbent.{Incumbent}
 use Rattle.branch_bound.specs.declared.side_searching.Task.{Task}

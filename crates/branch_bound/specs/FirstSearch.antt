@@ -4,10 +4,9 @@ use Rattle.placement_programme.specs.Plain.{PlainSide, PlainProgramme}
 use Rattle.placement_programme.specs.Programme.{gain}
 use Rattle.placement_programme.specs.Views.{plain_choice}
 use Rattle.certificate_checker.specs.declared.fixings.Fixing.{Fixing}
+use Rattle.lagrangian_bound.specs.declared.guiding.NodeBound.{NodeBound}
 use Rattle.branch_bound.specs.Entries.{vars_on}
 use Rattle.branch_bound.specs.Guided.{SearchesSide, SearchesOn}
-use Rattle.branch_bound.specs.declared.bounding.DualBound.{DualBound}
-use Rattle.branch_bound.specs.declared.guiding.NodeBound.{NodeBound}
 use Rattle.branch_bound.specs.declared.outcomes.Found.{Found}
 use Rattle.branch_bound.specs.declared.outcomes.Status.TheVariants.{Optimal}
 use Rattle.branch_bound.specs.declared.side_visiting.Round.{Round}
@@ -46,7 +45,3 @@ abbrev pub KeepsFirst : {G : Type 0} → (G → PlainSide → List Fixing → �
 KeepsFirst answers p nodes found =
     (found.status ≡ Optimal)
     ⊎ ((gains : ℕ) × (FirstSearch answers p nodes gains × (pos gains ≤ℤ gain p (plain_choice found.choice))))
-
--- of what the guide of `solve` answers nothing is told
-abbrev pub any_answer : DualBound → PlainSide → List Fixing → ℕ → NodeBound → DualBound → Type 0
-any_answer old s marks best answer new = Unit {0}

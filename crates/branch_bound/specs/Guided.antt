@@ -7,8 +7,8 @@ use Rattle.certificate_checker.specs.Shows.{all_free, IsAccepted}
 use Rattle.certificate_checker.specs.declared.fixings.Fixing.{Fixing}
 use Rattle.certificate_checker.specs.declared.fixings.Fixing.TheVariants.{Zero, One}
 use Rattle.certificate_checker.specs.declared.nodes.TreeNode.{TreeNode}
+use Rattle.lagrangian_bound.specs.declared.guiding.NodeBound.{NodeBound}
 use Rattle.branch_bound.specs.Visits.{IsVisited}
-use Rattle.branch_bound.specs.declared.guiding.NodeBound.{NodeBound}
 use Rattle.branch_bound.specs.declared.side_incumbents.Incumbent.{Incumbent}
 use Rattle.branch_bound.specs.declared.side_visiting.OnSide.{OnSide}
 use Rattle.branch_bound.specs.declared.side_visiting.OnSide.TheVariants.{Absent, Shown, Unfinished}

@@ -6,11 +6,11 @@ use Rattle.certificate_checker.specs.Fixings.{is_free}
 use Rattle.certificate_checker.specs.Nodes.{PlainTree}
 use Rattle.certificate_checker.specs.NodeLists.{PlainNode}
 use Rattle.certificate_checker.specs.declared.fixings.Fixing.{Fixing}
+use Rattle.lagrangian_bound.specs.declared.guiding.NodeBound.{NodeBound}
 use Rattle.branch_bound.specs.Guided.{Spends, Searches, stand}
 use Rattle.branch_bound.specs.Incumbents.{GoesOn}
 use Rattle.branch_bound.specs.Trails.{steps_on, nodes_on, place_of, Way, IsBehind, IsWhole}
 use Rattle.branch_bound.specs.Visits.{ShownWithin}
-use Rattle.branch_bound.specs.declared.guiding.NodeBound.{NodeBound}
 use Rattle.branch_bound.specs.declared.open_branches.OpenBranch.{OpenBranch}
 use Rattle.branch_bound.specs.declared.side_incumbents.Incumbent.{Incumbent}
 use Rattle.branch_bound.specs.declared.side_stands.Stand.{Stand}

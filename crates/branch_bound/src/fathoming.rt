@@ -4,11 +4,11 @@ ghost use Rattle.placement_programme.specs.{Bounds.{value_of}, Views.{plain_side
 ghost use Rattle.certificate_checker.specs.{Rules.{BranchHolds, DualHolds}, RowWise.{rows_of, IsOfSide}, Spelling.{IsDualInRange}};
 ghost use Rattle.branch_bound.specs.{Visits.{ShownHere, IsVisited}, Guided.{CannotBranch, Leads}};
 
-use crate::guiding::DualSolution;
 use crate::side_visiting::Visit;
 use certificate_checker::{
     Fixing, TreeNode, Weighed, branch_holds, dual_holds_by_row, leaf_holds, over_holds,
 };
+use lagrangian_bound::DualSolution;
 use placement_programme::Side;
 use std::alloc::{AllocError, Global};
 

@@ -2,30 +2,19 @@
 //! search that a Lagrangian bound guides, and behind it branch and bound in the order of the stated list.
 #![tactic(auto)]
 
-mod bounding;
 mod certifying;
 mod closing;
-mod columns;
-mod completing;
 mod exceeding;
 mod fathoming;
 mod finishing;
 mod greedy;
-mod guiding;
 mod improving;
 mod incumbents;
-mod lagrangian;
 mod laws;
-mod layout;
-mod live;
-mod named_rows;
-mod node;
-mod numbers;
 mod ones;
 mod open_branches;
 mod outcomes;
 mod ranking;
-mod relaxation;
 mod running;
 mod searching;
 mod side_certifying;

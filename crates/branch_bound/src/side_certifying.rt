@@ -4,12 +4,11 @@ ghost use Rattle.placement_programme.specs.{Plain.{PlainProgramme}, Views.{plain
 ghost use Rattle.certificate_checker.specs.{RowWise.{rows_of, IsOfSide}, Shows.{all_free, Shows}, Reading.{most_levels}, Spelling.{IsInRange}, Views.{plain_certificate}};
 ghost use Rattle.branch_bound.specs.{Incumbents.{IsSound}, Rounds.{IsRound}, Visits.{ShownBelow, ShownOn}, Entries.{vars_on}, Guided.{SearchesSide, SearchesOn, has_ended}, FirstSearch.{nodes_within, SearchesBoth, FirstSearch, IfUnfinished}};
 
-use crate::bounding::DualBound;
-use crate::guiding::Guide;
 use crate::side_incumbents::Incumbent;
 use crate::side_searching::{Task, search};
 use crate::side_visiting::{OnSide, Round};
 use certificate_checker::{Certificate, Fixing, RowWise, Tree, free_marks};
+use lagrangian_bound::{DualBound, Guide};
 use placement_programme::{Choice, Programme, Side};
 use shelf_io::{NoProgress, Progress};
 use std::alloc::{AllocError, Global};

@@ -5,13 +5,13 @@ ghost use Rattle.certificate_checker.specs.{Fixings.{is_free}, declared.fixings.
 ghost use Rattle.branch_bound.specs.{Incumbents.{IsSound, GoesOn}, Visits.{ShownBelow, IsVisited}, Rounds.{IsReady}, Guided.{Gains, Takes, Asks, Searches, stand}, Trails.{steps_on, nodes_on, place_of, IsBehind}, SideStands.{number_itself, IsOpenedBy, FindsBy, SideWay, SideStands, CanStepBack, is_side_ended, side_ahead}, declared.side_incumbents.Incumbent.{Incumbent}, declared.side_stands.Stand.TheVariants.{Before, Behind, Ended}};
 
 use crate::fathoming::{fathom_dual, fathom_or_branch};
-use crate::guiding::{Guide, NodeBound};
 use crate::open_branches::OpenBranch;
 use crate::side_incumbents::Incumbent;
 use crate::side_stands::{Stand, has_ended};
 use crate::side_visiting::Visit;
 use crate::trails::{Trail, close, first_trail, join, step_back, step_to, whole_tree};
 use certificate_checker::{Fixing, RowWise, Tree, Weighed, accepted};
+use lagrangian_bound::{Guide, NodeBound};
 use placement_programme::{Choice, Programme, Side};
 use std::alloc::{AllocError, Global};
 

@@ -1,12 +1,11 @@
 ghost use Rattle.std.specs.Prelude.{◌≡◌, ℕ, pos, ◌^◌, ◌<◌, ◌≤◌, ◌≤ℤ◌, ◌+◌, MatchOption, IfOk};
 ghost use Rattle.placement_programme.specs.{Programme.{IsFeasible, gain}, Views.{plain_side, plain_programme, plain_choice}};
 ghost use Rattle.certificate_checker.specs.{Shows.{all_free}, Spelling.{IsInRange}, Reading.{most_levels}, Views.{plain_certificate}};
-ghost use Rattle.branch_bound.specs.{Incumbents.{IsSound}, Entries.{all_vars}, declared.outcomes.Status.TheVariants.{Optimal}, Growing.{CannotGrow}, Searching.{Reports, HasLevels, KeepsIncumbent, IsIncumbent, choice_of}, Solving.{ReportsOn, ReachesFirst, EndsWithin, AreTreesOf, Certifies, IsSearched}, FirstSearch.{KeepsFirst, any_answer}};
+ghost use Rattle.branch_bound.specs.{Incumbents.{IsSound}, Entries.{all_vars}, declared.outcomes.Status.TheVariants.{Optimal}, Growing.{CannotGrow}, Searching.{Reports, HasLevels, KeepsIncumbent, IsIncumbent, choice_of}, Solving.{ReportsOn, ReachesFirst, EndsWithin, AreTreesOf, Certifies, IsSearched}, FirstSearch.{KeepsFirst}};
+ghost use Rattle.lagrangian_bound.specs.Guiding.{any_answer};
 
-use crate::bounding::DualBound;
 use crate::certifying::trees_of;
 use crate::finishing::{choice_from, finish};
-use crate::guiding::Guide;
 use crate::incumbents::Incumbent;
 use crate::outcomes::{Found, Outcome, Status, Trees};
 use crate::ranking::ranking;
@@ -16,6 +15,7 @@ use crate::side_certifying::certify_guided;
 use crate::side_visiting::Round;
 use crate::starting::{begin, better};
 use certificate_checker::{Assignment, Certificate, free_marks};
+use lagrangian_bound::{DualBound, Guide};
 use placement_programme::{Choice, Programme, Side};
 use shelf_io::Progress;
 use std::alloc::{AllocError, Global};

@@ -18,7 +18,7 @@ struct BoundedSide {
 
 /// The Lagrangian bound of a side.
 #[derive(Drop)]
-pub(crate) struct DualBound {
+pub struct DualBound {
     /// None where the side's gains are too large for it: then it bounds nothing.
     bounded: Option<BoundedSide>,
     /// What the first node's bound shows of the side, if it has been asked.
@@ -152,7 +152,7 @@ fn bounded_side(alloc: Global, layout: Layout) -> Result<BoundedSide, AllocError
 }
 
 impl Guide for DualBound {
-    ghost use Rattle.branch_bound.specs.FirstSearch.{any_answer};
+    ghost use Rattle.lagrangian_bound.specs.Guiding.{any_answer};
 
     ghost answers = { any_answer };
 

@@ -1,7 +1,7 @@
 ghost use Rattle.std.specs.Prelude.{ℕ, List, IfOk};
 ghost use Rattle.placement_programme.specs.{Plain.{PlainSide}, Views.{plain_side}};
 ghost use Rattle.certificate_checker.specs.declared.fixings.Fixing.{Fixing};
-ghost use Rattle.branch_bound.specs.declared.guiding.NodeBound.{NodeBound};
+ghost use Rattle.lagrangian_bound.specs.declared.guiding.NodeBound.{NodeBound};
 
 use certificate_checker::Fixing;
 use placement_programme::Side;
@@ -9,14 +9,16 @@ use std::alloc::{AllocError, Global};
 
 /// A dual solution: multipliers that may bound the gain, with the scale of the gains.
 #[derive(Drop)]
-pub(crate) struct DualSolution {
+pub struct DualSolution {
+    /// By which the gains are multiplied.
     pub scale: u32,
+    /// Numbers of rows, each with its multiplier: scaled gains for a unit of the row's capacity.
     pub multipliers: Vec<(u32, u64)>,
 }
 
 /// What a guide answers of a node. The search tests all of it.
 #[derive(Drop)]
-pub(crate) struct NodeBound {
+pub struct NodeBound {
     /// A row that the variables fixed to one exceed.
     pub exceeded: Option<u32>,
     /// A choice below the node that gains more than what was asked, as the numbers of its variables.
@@ -28,7 +30,7 @@ pub(crate) struct NodeBound {
 }
 
 /// What leads the first search of a side from node to node.
-pub(crate) trait Guide: Sized + Drop {
+pub trait Guide: Sized + Drop {
     // what it answers of a node, asked whether anything below it gains more than so much
     ghost answers: { Self → PlainSide → List Fixing → ℕ → NodeBound → Self → Type 0 };
 
