@@ -68,36 +68,41 @@ struct Line<'a> {
 pub fn explain_board(notes: &mut Notes, text: &[u8], fault: &BoardFault) {
     match fault {
         BoardFault::NotToml => say_syntax(notes, text),
-        BoardFault::Missing { key } => notes.say(&[
-            Piece::Text("the table [price] of the board lacks "),
-            Piece::Name(text_at(&KEYS, key.saturating_sub(1)).as_bytes()),
-            Piece::Text(": give all six prices, or no table"),
-        ]),
+        BoardFault::Missing { key } => notes.say(
+            "the table [price] of the board lacks {}: give all six prices, or no table",
+            &[Piece::Name(key_name(*key))],
+        ),
         BoardFault::WrongType { key } | BoardFault::OutOfRange { key } => {
-            let name = text_at(&KEYS, key.saturating_sub(1)).as_bytes();
-            say_line_of_key(notes, text, name);
-            notes.say(&[
-                Piece::Name(name),
-                Piece::Text(" is to be "),
-                Piece::Text(text_at(&VALUES, key.saturating_sub(1))),
-            ])
+            say_wrong_value(notes, text, *key)
         }
         BoardFault::UnknownKey { name } => {
             say_line_of_key(notes, text, name.as_bytes());
-            notes.say(&[
-                Piece::Text("the board has no key "),
-                Piece::Name(name.as_bytes()),
-                Piece::Text("; docs/BOARD.md has all keys"),
-            ])
+            notes.say(
+                "the board has no key {}; docs/BOARD.md has all keys",
+                &[Piece::Name(name.as_bytes())],
+            )
         }
         BoardFault::Memory => {}
     }
 }
 
+/// The name of a key by its number.
+fn key_name(key: u32) -> &'static [u8] {
+    text_at(&KEYS, key.saturating_sub(1)).as_bytes()
+}
+
+/// The line of a key that has a value that it may not have, and what it may be.
+fn say_wrong_value(notes: &mut Notes, text: &[u8], key: u32) {
+    let name = key_name(key);
+    say_line_of_key(notes, text, name);
+    let value = text_at(&VALUES, key.saturating_sub(1));
+    notes.say("{} is to be {}", &[Piece::Name(name), Piece::Text(value)]);
+}
+
 /// Where a text is no TOML, and why.
 fn say_syntax(notes: &mut Notes, text: &[u8]) {
     if text.starts_with(ELF_MAGIC) {
-        ELF_FILE.say(notes);
+        notes.say_words(ELF_FILE);
         return;
     }
     let Err(error) = toml::table_from_slice(notes.alloc(), text) else {
@@ -113,14 +118,14 @@ fn say_position(notes: &mut Notes, text: &[u8], place: usize, reason: &str) {
     let Some(line) = line_of(text, Sought::Place(place)) else {
         return;
     };
-    notes.say(&[
-        Piece::Text("line "),
-        Piece::Number(line.number),
-        Piece::Text(", column "),
-        Piece::Number((place.saturating_sub(line.start) as u64).saturating_add(1)),
-        Piece::Text(" of the board is no TOML: "),
-        Piece::Text(reason),
-    ]);
+    notes.say(
+        "line {}, column {} of the board is no TOML: {}",
+        &[
+            Piece::Number(line.number),
+            Piece::Number((place.saturating_sub(line.start) as u64).saturating_add(1)),
+            Piece::Text(reason),
+        ],
+    );
     say_line(notes, &line);
 }
 
@@ -131,12 +136,10 @@ fn say_line_of_key(notes: &mut Notes, text: &[u8], key: &[u8]) {
 }
 
 fn say_line(notes: &mut Notes, line: &Line) {
-    notes.say(&[
-        Piece::Text("line "),
-        Piece::Number(line.number),
-        Piece::Text(" of the board: "),
-        Piece::Name(line.text),
-    ]);
+    notes.say(
+        "line {} of the board: {}",
+        &[Piece::Number(line.number), Piece::Name(line.text)],
+    );
 }
 
 /// Which line of a text is looked for.
@@ -150,31 +153,36 @@ enum Sought<'a> {
 
 /// The line of a text that is looked for.
 fn line_of<'a>(text: &'a [u8], sought: Sought) -> Option<Line<'a>> {
-    let mut number: u64 = 0;
+    let mut number: u64 = 1;
     let mut start: usize = 0;
-    for line in text.split(|byte| *byte == b'\n') {
-        number = number.saturating_add(1);
-        let end = start.saturating_add(line.len());
-        let is_found = match sought {
-            Sought::Place(place) => place <= end,
-            Sought::Key(key) => begins_with_key(line, key),
-        };
-        if is_found {
-            return Some(Line {
-                number,
-                start,
-                text: line,
-            });
+    for end in 0..text.len().saturating_add(1) {
+        match text.get(end) {
+            Some(byte) if *byte != b'\n' => {}
+            _ => {
+                let line = text.get(start..end).unwrap_or_default();
+                if is_sought(line, end, sought) {
+                    return Some(Line {
+                        number,
+                        start,
+                        text: line,
+                    });
+                }
+                number = number.saturating_add(1);
+                start = end.saturating_add(1);
+            }
         }
-        start = end.saturating_add(1);
     }
     None
 }
 
-fn begins_with_key(line: &[u8], key: &[u8]) -> bool {
-    match line.trim_ascii_start().strip_prefix(key) {
-        Some(rest) => rest.trim_ascii_start().starts_with(b"="),
-        None => false,
+/// Whether a line that ends at a place is looked for.
+fn is_sought(line: &[u8], end: usize, sought: Sought) -> bool {
+    match sought {
+        Sought::Place(place) => place <= end,
+        Sought::Key(key) => match line.trim_ascii_start().strip_prefix(key) {
+            Some(rest) => rest.trim_ascii_start().starts_with(b"="),
+            None => false,
+        },
     }
 }
 
@@ -185,22 +193,21 @@ pub fn gives_key(text: &[u8], key: &[u8]) -> bool {
 
 /// The text of a board with further names in its list `fix`.
 pub fn text_with_fixed(alloc: Global, text: &[u8], names: &[&[u8]]) -> Result<Vec<u8>, AllocError> {
-    let mut changed = Vec::new(alloc);
     let place = place_in_list(text, b"fix");
     let kept = text.get(..place.unwrap_or_default()).unwrap_or_default();
-    changed.extend_from_slice(kept)?;
+    let mut changed = Notes::new(alloc);
+    changed.add(kept);
     if place.is_none() {
-        changed.extend_from_slice(b"fix = [")?;
+        changed.add(b"fix = [");
     }
     for name in names {
-        push_quoted(&mut changed, name)?;
-        changed.extend_from_slice(b", ")?;
+        changed.put("{}, ", &[Piece::Quoted(name)]);
     }
     if place.is_none() {
-        changed.extend_from_slice(b"]\n")?;
+        changed.add(b"]\n");
     }
-    changed.extend_from_slice(text.get(kept.len()..).unwrap_or_default())?;
-    Ok(changed)
+    changed.add(text.get(kept.len()..).unwrap_or_default());
+    changed.into_whole()
 }
 
 /// Where the names begin of a list that a board gives.
@@ -214,17 +221,4 @@ fn place_in_list(text: &[u8], key: &[u8]) -> Option<usize> {
         }
     }
     None
-}
-
-/// Adds a name as TOML has it in quotes.
-pub(crate) fn push_quoted(text: &mut Vec<u8>, name: &[u8]) -> Result<(), AllocError> {
-    text.push(b'"')?;
-    for byte in name {
-        if matches!(*byte, b'"' | b'\\') {
-            text.push(b'\\')?;
-        }
-        text.push(*byte)?;
-    }
-    text.push(b'"')?;
-    Ok(())
 }

@@ -2,7 +2,7 @@ use crate::cures::{before_name, text_at};
 use crate::faults::{AddressFault, Way};
 use crate::notes::{Notes, Piece};
 use crate::objects::say_load_address;
-use crate::runs::{Involved, REASONS, say_instruction};
+use crate::runs::{Involved, reason_of, say_instruction};
 use unchecked_file::UncheckedFile;
 
 /// The greatest word, as the number -1.
@@ -93,16 +93,16 @@ pub fn say_fault_cure(
             Some(segment) => say_load_address(notes, file, &segment),
             None => {}
         },
-        Some(EarlyCure::Symbols) => notes.say_first(
-            "the file has no symbols: strip by strip -g alone, before relink, and link without -s",
+        Some(EarlyCure::Symbols) => notes.say_words(
+            "first: the file has no symbols: strip by strip -g alone, before relink, and link without -s",
         ),
         Some(EarlyCure::Relocations) => {
-            notes.say_first("the file has no relocations: link with -Wl,--emit-relocs")
+            notes.say_words("first: the file has no relocations: link with -Wl,--emit-relocs")
         }
-        None if fault.why == NO_DATA && involved.bytes.is_empty() => notes.say_first(
-            "let the start code set the stack pointer (sp), and list device registers in `areas` of the board",
+        None if fault.why == NO_DATA && involved.bytes.is_empty() => notes.say_words(
+            "first: let the start code set the stack pointer (sp), and list device registers in `areas` of the board",
         ),
-        None => notes.say_first(text_at(&CURES, fault.why)),
+        None => notes.say("first: {}", &[Piece::Text(text_at(&CURES, fault.why))]),
     }
 }
 
@@ -114,80 +114,73 @@ pub fn say_further_fault(
     involved: &Involved<'_>,
 ) {
     say_instruction(notes, file, "with that kept, address fault", fault.pc);
-    notes.begin("  ");
-    notes.put(&[Piece::Text(text_at(&REASONS, fault.why))]);
-    put_involved(notes, ": ", involved.object);
-    put_involved(notes, ", and of ", involved.other);
+    notes.begin("  {}", &[Piece::Text(reason_of(fault.why))]);
+    put_involved(notes, ": {}", involved.object);
+    put_involved(notes, ", and of {}", involved.other);
     if involved.object.is_empty() && involved.other.is_empty() {
-        put_involved(notes, ": ", involved.bytes);
+        put_involved(notes, ": {}", involved.bytes);
     }
     notes.end("");
 }
 
 fn put_involved(notes: &mut Notes, words: &str, name: &[u8]) {
-    if name.is_empty() {
-        return;
+    if !name.is_empty() {
+        notes.put(words, &[Piece::Name(name)]);
     }
-    notes.put(&[Piece::Text(words), Piece::Name(name)]);
 }
 
 /// How many more address faults there were on the way to a list.
-pub const MORE_FAULTS: &str = " more address faults were met likewise";
+pub const MORE_FAULTS: &str = "{} more address faults were met likewise";
 
 /// That the run meets an address fault even with all objects kept.
 pub fn say_no_list(notes: &mut Notes, file: &UncheckedFile, fault: &AddressFault) {
-    let reason = text_at(&REASONS, fault.why);
     notes.say_words("no list of `fix` helps: with all objects kept,");
     say_instruction(notes, file, "  address fault", fault.pc);
-    notes.begin("  ");
-    notes.end(reason);
+    notes.say("  {}", &[Piece::Text(reason_of(fault.why))]);
 }
 
 /// The list, as one line of the board, and what else lets the objects move.
 pub fn say_fix(notes: &mut Notes, list: &FixList, fault: &AddressFault, involved: &Involved) {
-    notes.begin("first: write the next line into the board");
-    notes.put(&[
-        Piece::Text(if list.kept.is_empty() {
-            ""
-        } else {
-            " in place of its `fix`"
-        }),
-        Piece::Text(if list.end == FixEnd::Whole {
-            ": with it this run meets no address fault, as "
-        } else {
-            ": with it this run comes further; a list with which it meets no address fault was not found in "
-        }),
-        Piece::Number(list.runs),
-        Piece::Text(if list.runs == 1 { " run" } else { " runs" }),
-    ]);
-    notes.end(if list.end == FixEnd::Whole {
-        " showed"
+    let words = if list.end == FixEnd::Whole {
+        "first: write the next line into the board{}: with it this run meets no address fault, as {} {} showed"
     } else {
-        ""
-    });
+        "first: write the next line into the board{}: with it this run comes further; a list with which it meets no address fault was not found in {} {}"
+    };
+    notes.say(
+        words,
+        &[
+            Piece::Text(if list.kept.is_empty() {
+                ""
+            } else {
+                " in place of its `fix`"
+            }),
+            Piece::Number(list.runs),
+            Piece::Text(if list.runs == 1 { "run" } else { "runs" }),
+        ],
+    );
     say_list(notes, list);
-    match other_cure(fault, involved) {
-        "" => {}
-        cure => {
-            notes.begin("or ");
-            notes.end(cure)
-        }
+    let cure = other_cure(fault, involved);
+    if !cure.is_empty() {
+        notes.say("or {}", &[Piece::Text(cure)]);
     }
 }
 
 /// The line of the board.
 fn say_list(notes: &mut Notes, list: &FixList) {
-    notes.begin("fix = [");
+    notes.begin("fix = [", &[]);
     for (place, name) in list.kept.iter().enumerate() {
-        let before = before_name(place, "");
-        notes.put(&[Piece::Text(before), Piece::Quoted(name.as_bytes())]);
+        put_listed(notes, before_name(place, ""), name.as_bytes());
     }
     let first = if list.kept.is_empty() { "" } else { ", " };
     for (place, name) in list.names.iter().enumerate() {
-        let before = before_name(place, first);
-        notes.put(&[Piece::Text(before), Piece::Quoted(name)]);
+        put_listed(notes, before_name(place, first), name);
     }
     notes.end("]");
+}
+
+/// Goes on with the line by a name.
+fn put_listed(notes: &mut Notes, before: &str, name: &[u8]) {
+    notes.put("{}{}", &[Piece::Text(before), Piece::Quoted(name)]);
 }
 
 /// What else than to keep the object.

@@ -167,16 +167,15 @@ const GROUPS: [Group; 16] = [
 
 /// Ends a line by the instruction that a word of code means, or by what else it is.
 pub(crate) fn end_by_instruction(notes: &mut Notes, word: u32) {
-    notes.put(&[Piece::Text(": ")]);
     for group in &GROUPS {
         if let Some(name) = name_in(group, word) {
-            notes.put(&[Piece::Text(name)]);
+            notes.put(": {}", &[Piece::Text(name)]);
             put_operands(notes, word, group.operands);
             notes.end("");
             return;
         }
     }
-    notes.end("no instruction of RV32IM");
+    notes.end(": no instruction of RV32IM");
 }
 
 /// The name that a group has of a word.
@@ -191,41 +190,21 @@ fn name_in(group: &Group, word: u32) -> Option<&'static str> {
 
 /// Goes on with a line by the operands of an instruction.
 fn put_operands(notes: &mut Notes, word: u32, operands: Operands) {
-    let target = register_name(word >> 7);
-    let first = register_name(word >> 15);
-    let second = register_name(word >> 20);
+    let target = Piece::Text(register_name(word >> 7));
+    let first = Piece::Text(register_name(word >> 15));
+    let second = Piece::Text(register_name(word >> 20));
+    let number = Piece::Signed(i_imm(word));
+    // the offset of a load, with the bits of the target for its last five
+    let offset = Piece::Signed(i_imm(word & 0xfe00_0000 | (word >> 7 & 31) << 20));
     match operands {
         Operands::Nothing => {}
-        Operands::Target => put_registers(notes, &[target]),
-        Operands::Compared => put_registers(notes, &[first, second]),
-        Operands::Three => put_registers(notes, &[target, first, second]),
-        Operands::Immediate => {
-            put_registers(notes, &[target, first]);
-            notes.put(&[Piece::Text(","), Piece::Signed(i_imm(word))])
-        }
-        Operands::Loaded => put_address(notes, target, i_imm(word), first),
-        Operands::Stored => {
-            // the offset of a load, with the bits of the target for its last five
-            let offset = i_imm(word & 0xfe00_0000 | (word >> 7 & 31) << 20);
-            put_address(notes, second, offset, first)
-        }
+        Operands::Target => notes.put(" {}", &[target]),
+        Operands::Compared => notes.put(" {},{}", &[first, second]),
+        Operands::Three => notes.put(" {},{},{}", &[target, first, second]),
+        Operands::Immediate => notes.put(" {},{},{}", &[target, first, number]),
+        Operands::Loaded => notes.put(" {},{}({})", &[target, number, first]),
+        Operands::Stored => notes.put(" {},{}({})", &[second, offset, first]),
     }
-}
-
-/// Goes on with a line by registers, with commas between them.
-fn put_registers(notes: &mut Notes, registers: &[&str]) {
-    let mut before = " ";
-    for register in registers {
-        notes.put(&[Piece::Text(before), Piece::Text(register)]);
-        before = ",";
-    }
-}
-
-/// Goes on with a line by a register, and the address that an offset and a register give.
-fn put_address(notes: &mut Notes, register: &str, offset: i32, base: &str) {
-    put_registers(notes, &[register]);
-    notes.put(&[Piece::Text(","), Piece::Signed(offset)]);
-    notes.put(&[Piece::Text("("), Piece::Text(base), Piece::Text(")")]);
 }
 
 /// The name of the register whose number is in the last five bits.

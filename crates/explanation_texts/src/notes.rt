@@ -1,13 +1,12 @@
-use crate::boards::push_quoted;
-use std::alloc::Global;
+use std::alloc::{AllocError, Global};
 use std::fmt::Display;
 
 /// The most bytes of a file or of a word of the command line that are shown.
 const MOST_SHOWN: usize = 100;
 
-/// A part of a line.
+/// What a gap of a line stands for.
 #[derive(Clone, Copy)]
-pub(crate) enum Piece<'a> {
+pub enum Piece<'a> {
     /// Words.
     Text(&'a str),
     /// A name of a file or of the command line, in backquotes. It needn't be UTF-8.
@@ -52,6 +51,15 @@ impl Notes {
         }
     }
 
+    /// The whole text; an error where a part of it found no memory.
+    pub(crate) fn into_whole(self) -> Result<Vec<u8>, AllocError> {
+        if self.is_cut {
+            Err(AllocError)
+        } else {
+            Ok(self.text)
+        }
+    }
+
     /// The allocator of the text.
     pub fn alloc(&self) -> Global {
         self.alloc
@@ -62,68 +70,71 @@ impl Notes {
         self.is_cut = true;
     }
 
-    /// Begins a line by some words.
-    pub(crate) fn begin(&mut self, words: &str) {
-        self.add("spmlink: ");
-        self.add(words);
+    /// Adds lines: each `{}` in the words is a gap, which the next piece fills.
+    pub fn say(&mut self, words: &str, pieces: &[Piece]) {
+        self.begin(words, pieces);
+        self.add(b"\n");
     }
 
-    /// Goes on with a line.
-    pub(crate) fn put(&mut self, pieces: &[Piece]) {
-        for piece in pieces {
-            match *piece {
-                Piece::Text(text) => self.add(text),
-                Piece::Name(name) => self.push_name(name),
-                Piece::Quoted(name) => {
-                    if push_quoted(&mut self.text, name).is_err() {
-                        self.cut();
+    /// Adds lines without gaps.
+    pub fn say_words(&mut self, words: &str) {
+        self.say(words, &[]);
+    }
+
+    /// Begins a line, as `say` does.
+    pub(crate) fn begin(&mut self, words: &str, pieces: &[Piece]) {
+        self.add(b"spmlink: ");
+        self.put(words, pieces);
+    }
+
+    /// Ends a line by words without gaps.
+    pub(crate) fn end(&mut self, words: &str) {
+        self.put(words, &[]);
+        self.add(b"\n");
+    }
+
+    /// Goes on with a line, as `say` does.
+    pub(crate) fn put(&mut self, words: &str, pieces: &[Piece]) {
+        let mut place: usize = 0;
+        for byte in words.as_bytes() {
+            match *byte {
+                b'{' => {
+                    if let Some(piece) = pieces.get(place) {
+                        self.put_piece(*piece);
                     }
+                    place = place.saturating_add(1);
                 }
-                Piece::Number(number) => self.show(number),
-                Piece::Signed(number) => self.show(number),
-                Piece::Percent(number) => {
-                    let (whole, tenths) = (number / 10, number % 10);
-                    self.show(format_args!("{whole}.{tenths} %"));
-                }
-                Piece::Hex(word) => self.show(format_args!("{word:#x}")),
+                b'}' => {}
+                b'\n' => self.add(b"\nspmlink: "),
+                byte => self.push(byte),
             }
         }
     }
 
-    /// Ends a line by some words.
-    pub(crate) fn end(&mut self, words: &str) {
-        self.add(words);
-        self.add("\n");
+    fn put_piece(&mut self, piece: Piece) {
+        match piece {
+            Piece::Text(text) => self.add(text.as_bytes()),
+            Piece::Name(name) => self.push_name(name),
+            Piece::Quoted(name) => self.push_quoted(name),
+            Piece::Number(number) => self.show(number),
+            Piece::Signed(number) => self.show(number),
+            Piece::Percent(number) => {
+                let (whole, tenths) = (number / 10, number % 10);
+                self.show(format_args!("{whole}.{tenths} %"));
+            }
+            Piece::Hex(word) => self.show(format_args!("{word:#x}")),
+        }
     }
 
-    /// Adds a line of these parts.
-    pub(crate) fn say(&mut self, pieces: &[Piece]) {
-        self.begin("");
-        self.put(pieces);
-        self.end("");
+    /// Adds bytes as they are.
+    pub(crate) fn add(&mut self, bytes: &[u8]) {
+        if self.text.extend_from_slice(bytes).is_err() {
+            self.cut();
+        }
     }
 
-    /// Adds a line of words.
-    pub fn say_words(&mut self, words: &str) {
-        self.begin(words);
-        self.end("");
-    }
-
-    /// Adds a line of a number between words.
-    pub fn say_number(&mut self, before: &str, number: u64, behind: &str) {
-        self.begin(before);
-        self.show(number);
-        self.end(behind);
-    }
-
-    /// Adds a line of what to do first.
-    pub fn say_first(&mut self, cure: &str) {
-        self.begin("first: ");
-        self.end(cure);
-    }
-
-    fn add(&mut self, text: &str) {
-        if self.text.extend_from_slice(text.as_bytes()).is_err() {
+    fn push(&mut self, byte: u8) {
+        if self.text.push(byte).is_err() {
             self.cut();
         }
     }
@@ -131,7 +142,7 @@ impl Notes {
     /// Adds a value as its `Display` writes it.
     fn show(&mut self, value: impl Display + Drop) {
         match format!(in self.alloc; "{value}") {
-            Ok(text) => self.add(text.as_str()),
+            Ok(text) => self.add(text.as_bytes()),
             Err(_) => self.cut(),
         }
     }
@@ -140,18 +151,30 @@ impl Notes {
     /// off.
     fn push_name(&mut self, name: &[u8]) {
         let shown = name.get(..MOST_SHOWN).unwrap_or(name);
-        self.add("`");
+        self.push(b'`');
         for byte in shown {
-            self.push_byte(*byte);
+            if *byte == b' ' || byte.is_ascii_graphic() {
+                self.push(*byte);
+            } else {
+                let byte = *byte;
+                self.show(format_args!("\\x{byte:02x}"));
+            }
         }
-        self.add(if shown.len() < name.len() { "..`" } else { "`" });
+        if shown.len() < name.len() {
+            self.add(b"..");
+        }
+        self.push(b'`');
     }
 
-    fn push_byte(&mut self, byte: u8) {
-        if byte == b' ' || byte.is_ascii_graphic() {
-            self.show(byte as char);
-        } else {
-            self.show(format_args!("\\x{byte:02x}"));
+    /// Adds a name as TOML has it in quotes.
+    fn push_quoted(&mut self, name: &[u8]) {
+        self.push(b'"');
+        for byte in name {
+            if matches!(*byte, b'"' | b'\\') {
+                self.push(b'\\');
+            }
+            self.push(*byte);
         }
+        self.push(b'"');
     }
 }

@@ -50,41 +50,42 @@ pub struct Stake {
 struct LabelCure {
     start: &'static [u8],
     end: &'static [u8],
-    first: &'static str,
+    /// A line of what to do first.
+    words: &'static str,
 }
 
 const LABEL_CURES: [LabelCure; 5] = [
     LabelCure {
         start: b"__start_",
         end: b"",
-        first: "a program walks the section as one table from its label, so its objects stay; no cure is needed",
+        words: "first: a program walks the section as one table from its label, so its objects stay; no cure is needed",
     },
     LabelCure {
         start: b"__stop_",
         end: b"",
-        first: AFTER_LABEL,
+        words: AFTER_LABEL,
     },
     LabelCure {
         start: b"",
         end: b"_end",
-        first: AFTER_LABEL,
+        words: AFTER_LABEL,
     },
     LabelCure {
         start: b"",
         end: b"data_start",
-        first: COPIED,
+        words: COPIED,
     },
     LabelCure {
         start: b"",
         end: b"_sdata",
-        first: COPIED,
+        words: COPIED,
     },
 ];
 
-const AFTER_LABEL: &str = "put a gap behind the label in the linker script: . = . + 4;";
+const AFTER_LABEL: &str = "first: put a gap behind the label in the linker script: . = . + 4;";
 
 const COPIED: &str =
-    "leave the loop that copies .data out of the start code, and AT> out of the linker script";
+    "first: leave the loop that copies .data out of the start code, and AT> out of the linker script";
 
 /// That nothing moved, and how many objects may move.
 pub fn say_nothing_moved(notes: &mut Notes, movable: u64, total: u64) {
@@ -94,26 +95,27 @@ pub fn say_nothing_moved(notes: &mut Notes, movable: u64, total: u64) {
         );
         return;
     }
-    notes.say(&[
-        Piece::Text("nothing moved: "),
-        Piece::Number(movable),
-        Piece::Text(" of "),
-        Piece::Number(total),
-        Piece::Text(" objects may move"),
-        Piece::Text(if movable == 0 {
-            ""
-        } else {
-            ", and in this run none saves more than it costs to copy it"
-        }),
-    ]);
+    notes.say(
+        "nothing moved: {} of {} objects may move{}",
+        &[
+            Piece::Number(movable),
+            Piece::Number(total),
+            Piece::Text(if movable == 0 {
+                ""
+            } else {
+                ", and in this run none saves more than it costs to copy it"
+            }),
+        ],
+    );
 }
 
 /// What to do where no access costs less in the scratchpad.
 pub const LOWER_PRICES: &str =
-    "let spm_fetch, spm_read and spm_write in [price] of the board be less than main_fetch, main_read and main_write";
+    "first: let spm_fetch, spm_read and spm_write in [price] of the board be less than main_fetch, main_read and main_write";
 
 /// What to do where all objects may move, and none pays.
-pub const LONGER_RUN: &str = "measure a longer run, as on a longer input: a copy is paid once";
+pub const LONGER_RUN: &str =
+    "first: measure a longer run, as on a longer input: a copy is paid once";
 
 /// How the names end of output sections that have a library's objects alone, as in examples/board.ld.
 const LIBRARY: &[u8] = b".library";
@@ -126,9 +128,8 @@ const TOLD_SOURCES: usize = 4;
 pub fn say_pinned(notes: &mut Notes, section: &PinnedSection, sources: &[&[u8]]) {
     if section.is_zeros {
         begin_stay(notes, section);
-        notes.end("`bss` of the board is \"fixed\"");
-        notes.say_first(
-            "write bss = \"movable\" into the board, if no start code clears the section by its addresses",
+        notes.end(
+            "`bss` of the board is \"fixed\"\nfirst: write bss = \"movable\" into the board, if no start code clears the section by its addresses",
         );
     }
     match section.label {
@@ -147,68 +148,63 @@ pub fn say_pinned(notes: &mut Notes, section: &PinnedSection, sources: &[&[u8]])
 
 /// How many other sections have objects that stay.
 pub fn say_more_sections(notes: &mut Notes, count: u64) {
-    let behind = if count == 1 {
-        " more section stay"
+    let words = if count == 1 {
+        "objects of {} more section stay"
     } else {
-        " more sections stay"
+        "objects of {} more sections stay"
     };
-    notes.say_number("objects of ", count, behind);
+    notes.say(words, &[Piece::Number(count)]);
 }
 
 fn begin_stay(notes: &mut Notes, section: &PinnedSection) {
-    let is_one = section.fixed == 1;
-    notes.begin("");
-    notes.put(&[
-        Piece::Number(section.fixed),
-        Piece::Text(if is_one {
-            " object of "
-        } else {
-            " objects of "
-        }),
-        Piece::Name(section.name),
-        Piece::Text(if is_one { " stays: " } else { " stay: " }),
-    ]);
+    let words = if section.fixed == 1 {
+        "{} object of {} stays: "
+    } else {
+        "{} objects of {} stay: "
+    };
+    notes.begin(
+        words,
+        &[Piece::Number(section.fixed), Piece::Name(section.name)],
+    );
 }
 
 fn say_label(notes: &mut Notes, section: &PinnedSection, label: &Label, sources: &[&[u8]]) {
     if section.is_zeros {
-        notes.begin("with that they still stay: ");
+        notes.begin("with that they still stay: ", &[]);
     } else {
         begin_stay(notes, section);
     }
-    notes.put(&[
-        Piece::Text("a relocation in "),
-        Piece::Name(label.changed),
-        Piece::Text(" leads to "),
-        Piece::Name(label.object),
-        Piece::Text(" by the label "),
-        Piece::Name(label.name),
-    ]);
-    notes.end(", and so none may move");
+    notes.put(
+        "a relocation in {} leads to {} by the label {}, and so none may move\n",
+        &[
+            Piece::Name(label.changed),
+            Piece::Name(label.object),
+            Piece::Name(label.name),
+        ],
+    );
     if let Some(stake) = section.at_stake {
-        say_stake(notes, stake);
+        put_stake(notes, stake);
     }
     if is_anchor(label.name) {
-        say_anchor_cure(notes, section.name, sources);
-        return;
+        end_by_anchor_cure(notes, section.name, sources);
+    } else {
+        notes.end(cure_of(section.name, label));
     }
-    notes.say_first(cure_of(section.name, label));
 }
 
-fn say_stake(notes: &mut Notes, stake: Stake) {
-    notes.begin("  at stake is up to ");
-    notes.put(&[
-        Piece::Percent(stake.thousandths),
-        Piece::Text(" of the energy: what the reads and writes there would save in the scratchpad"),
-    ]);
+/// Goes on by a line of what is at stake.
+fn put_stake(notes: &mut Notes, stake: Stake) {
+    notes.put(
+        "  at stake is up to {} of the energy: what the reads and writes there would save in the scratchpad",
+        &[Piece::Percent(stake.thousandths)],
+    );
     if let Some(steps) = stake.first_steps {
-        notes.put(&[
-            Piece::Text(", reckoned from the first "),
-            Piece::Number(steps),
-            Piece::Text(" steps"),
-        ]);
+        notes.put(
+            ", reckoned from the first {} steps",
+            &[Piece::Number(steps)],
+        );
     }
-    notes.end("");
+    notes.put("\n", &[]);
 }
 
 /// Whether an output section has a library's objects alone, by its name.
@@ -216,27 +212,27 @@ pub fn is_library(section: &[u8]) -> bool {
     section.ends_with(LIBRARY)
 }
 
-/// What frees objects from anchors, and the sources that have these.
-fn say_anchor_cure(notes: &mut Notes, section: &[u8], sources: &[&[u8]]) {
+/// Ends a line by what frees objects from anchors, and the sources that have these.
+fn end_by_anchor_cure(notes: &mut Notes, section: &[u8], sources: &[&[u8]]) {
     if is_library(section) {
-        notes.say_first(
-            "a library was compiled with anchors: objects of its own stay, and no others; no cure is needed",
+        notes.end(
+            "first: a library was compiled with anchors: objects of its own stay, and no others; no cure is needed",
         );
         return;
     }
-    notes.begin("first: compile with -fno-section-anchors or -fdata-sections");
+    notes.put(
+        "first: compile with -fno-section-anchors or -fdata-sections",
+        &[],
+    );
     for (place, source) in sources.iter().enumerate() {
         if place < TOLD_SOURCES {
             let before = before_name(place, " (the anchors are of ");
-            notes.put(&[Piece::Text(before), Piece::Name(source)]);
+            notes.put("{}{}", &[Piece::Text(before), Piece::Name(source)]);
         }
     }
     if sources.len() > TOLD_SOURCES {
-        notes.put(&[
-            Piece::Text(" and of "),
-            Piece::Number(sources.len().saturating_sub(TOLD_SOURCES) as u64),
-            Piece::Text(" more sources"),
-        ]);
+        let more = sources.len().saturating_sub(TOLD_SOURCES) as u64;
+        notes.put(" and of {} more sources", &[Piece::Number(more)]);
     }
     notes.end(if sources.is_empty() {
         ""
@@ -248,31 +244,27 @@ fn say_anchor_cure(notes: &mut Notes, section: &[u8], sources: &[&[u8]]) {
 /// What frees objects from a label.
 fn cure_of(section: &[u8], label: &Label) -> &'static str {
     if label.changed.starts_with(b".eh_frame") {
-        return "compile with -fno-asynchronous-unwind-tables -fno-unwind-tables, or discard .eh_frame, or put a gap before the section";
+        return "first: compile with -fno-asynchronous-unwind-tables -fno-unwind-tables, or discard .eh_frame, or put a gap before the section";
     }
     for row in &LABEL_CURES {
         if label.name.starts_with(row.start) && label.name.ends_with(row.end) {
-            return row.first;
+            return row.words;
         }
     }
     if section.starts_with(b".bss") || section.starts_with(b".sbss") {
-        return "leave the loop that clears .bss out of the start code, or let .bss be bytes of the file, as a part of .data";
+        return "first: leave the loop that clears .bss out of the start code, or let .bss be bytes of the file, as a part of .data";
     }
-    "put a gap behind the label in the linker script (. = . + 4;), or give it a type and a size"
+    "first: put a gap behind the label in the linker script (. = . + 4;), or give it a type and a size"
 }
 
 /// A segment that would be copied from a load address.
 pub fn say_load_address(notes: &mut Notes, file: &UncheckedFile, segment: &RawSegment) {
-    notes.begin("the segment of ");
-    notes.put(&[
-        Piece::Name(file.first_section(segment)),
-        Piece::Text(" runs at "),
-        Piece::Hex(segment.vaddr),
-        Piece::Text(", and its load address is "),
-        Piece::Hex(segment.paddr),
-    ]);
-    notes.end(": it is loaded where it runs, and nothing is loaded there");
-    notes.say_first(
-        "leave AT> out of the linker script, and the loop that copies the section out of the start code",
+    notes.say(
+        "the segment of {} runs at {}, and its load address is {}: it is loaded where it runs, and nothing is loaded there\nfirst: leave AT> out of the linker script, and the loop that copies the section out of the start code",
+        &[
+            Piece::Name(file.first_section(segment)),
+            Piece::Hex(segment.vaddr),
+            Piece::Hex(segment.paddr),
+        ],
     );
 }

@@ -27,28 +27,28 @@ pub fn say_unpaired(
 ) {
     let stands = "the first instruction that is not paired stands";
     say_instruction(notes, file, stands, unpaired.pc);
-    let cure = match unpaired.object {
+    let end = match unpaired.object {
         Some(_) => {
-            notes.begin("it adds the low part of an address in ");
-            notes.put(&[Piece::Name(parts.low), Piece::Text(" to ")]);
+            notes.begin(
+                "it adds the low part of an address in {} to the upper part of an address in {}",
+                &[Piece::Name(parts.low), Piece::Name(parts.upper)],
+            );
             OTHER_UPPER
         }
         None => {
-            notes.begin("it takes the low bits of ");
+            notes.begin(
+                "it takes the low bits of the upper part of an address in {}",
+                &[Piece::Name(parts.upper)],
+            );
             BARE_UPPER
         }
     };
-    notes.put(&[
-        Piece::Text("the upper part of an address in "),
-        Piece::Name(parts.upper),
-    ]);
     match unpaired.upper {
         Some(address) => {
-            notes.put(&[Piece::Text(" that stands")]);
+            notes.put(" that stands", &[]);
             put_place(notes, file, address)
         }
-        None => notes.put(&[Piece::Text(" that a lui made")]),
+        None => notes.put(" that a lui made", &[]),
     }
-    notes.end(cure.cause);
-    notes.say_first(cure.first);
+    notes.end(end);
 }

@@ -1,4 +1,4 @@
-use crate::cures::{COMPRESSED, Cure, CureRow, OTHER_FORM, cure_of};
+use crate::cures::{COMPRESSED, CureRow, OTHER_FORM, say_cure};
 use crate::notes::{Notes, Piece};
 use crate::relocations::say_unsupported;
 use board_config::{Board, Range};
@@ -19,40 +19,33 @@ const FLAGS: u32 = 7;
 const FIELDS: [CureRow; 5] = [
     CureRow {
         numbers: &[1, 2, 5],
-        cure: Cure {
-            cause: "the file is none of 32-bit RISC-V",
-            first: "compile and link with -march=rv32im -mabi=ilp32",
-        },
+        words: "the file is none of 32-bit RISC-V\nfirst: compile and link with -march=rv32im -mabi=ilp32",
     },
     CureRow {
         numbers: &[4],
-        cure: Cure {
-            cause: "the file is no executable at fixed addresses",
-            first: "link it, with -static and without -shared, -pie and -r",
-        },
+        words: "the file is no executable at fixed addresses\nfirst: link it, with -static and without -shared, -pie and -r",
     },
     CureRow {
         numbers: &[11],
-        cure: Cure {
-            cause: "the file has a dynamic or interpreter segment",
-            first: "link with -static and -no-pie",
-        },
+        words: "the file has a dynamic or interpreter segment\nfirst: link with -static and -no-pie",
     },
     CureRow {
         numbers: &[14],
-        cure: Cure {
-            cause: "the file has relocations for a loader, as .rela.dyn, or in a form that is not read",
-            first: "compile with -ftls-model=local-exec, and link a static executable with -Wl,--emit-relocs",
-        },
+        words: "the file has relocations for a loader, as .rela.dyn, or in a form that is not read\nfirst: compile with -ftls-model=local-exec, and link a static executable with -Wl,--emit-relocs",
     },
     CureRow {
         numbers: &[15],
-        cure: Cure {
-            cause: "the file has two symbol tables",
-            first: "link a static executable with -Wl,--emit-relocs",
-        },
+        words: "the file has two symbol tables\nfirst: link a static executable with -Wl,--emit-relocs",
     },
 ];
+
+/// A scratchpad that begins at an address that is none.
+const SPM_AT_ZERO: &str =
+    "the scratchpad of the board begins below address 16\nfirst: correct `spm` of the board";
+
+/// How many objects may move, where these are too many.
+const TOO_MANY_OBJECTS: &str =
+    "{} objects may move, and 4,096 are the limit\nfirst: keep some by `fix` of the board";
 
 /// Why a file is not read.
 pub fn explain_elf(notes: &mut Notes, file: &UncheckedFile, fault: &ElfFault) {
@@ -60,14 +53,14 @@ pub fn explain_elf(notes: &mut Notes, file: &UncheckedFile, fault: &ElfFault) {
         ElfFault::WrongKind {
             field: FLAGS,
             value,
-        } if value & 1 == 1 => COMPRESSED.say(notes),
-        ElfFault::WrongKind { field, .. } => cure_of(&FIELDS, field, OTHER_FORM).say(notes),
+        } if value & 1 == 1 => notes.say_words(COMPRESSED),
+        ElfFault::WrongKind { field, .. } => say_cure(notes, &FIELDS, field, OTHER_FORM),
         ElfFault::Unsupported { index, kind } => say_unsupported(notes, file, index, kind),
         ElfFault::Compressed { section } => say_section(
             notes,
             file,
             section,
-            " has memory and is compressed: link it uncompressed",
+            "section {} has memory and is compressed: link it uncompressed",
         ),
         ElfFault::OutOfFile {
             table: SECTION_TABLE,
@@ -76,129 +69,127 @@ pub fn explain_elf(notes: &mut Notes, file: &UncheckedFile, fault: &ElfFault) {
             notes,
             file,
             index,
-            " does not lie inside the file, which is cut off: link it again",
+            "section {} does not lie inside the file, which is cut off: link it again",
         ),
         ElfFault::Memory => {}
-        _ => OTHER_FORM.say(notes),
+        _ => notes.say_words(OTHER_FORM),
     }
 }
 
-fn say_section<'a>(notes: &mut Notes, file: &UncheckedFile<'a>, section: u32, words: &'a str) {
-    notes.say(&[
-        Piece::Text("section "),
-        Piece::Name(file.section_name(section)),
-        Piece::Text(words),
-    ]);
+fn say_section(notes: &mut Notes, file: &UncheckedFile, section: u32, words: &str) {
+    notes.say(words, &[Piece::Name(file.section_name(section))]);
 }
 
 /// Why a program does not fit a board.
 pub fn explain_layout(notes: &mut Notes, file: &UncheckedFile, board: &Board, fault: &GraphFault) {
     match *fault {
         GraphFault::SpmOverlap { segment } => {
-            let segment = file.segment(segment);
-            say_segment(notes, file, &segment, " overlaps the scratchpad");
-            say_range(notes, "spm", &board.spm);
-            notes.say_first("correct the linker script, or `spm` of the board")
+            put_segment(
+                notes,
+                file,
+                &file.segment(segment),
+                " overlaps the scratchpad\n",
+            );
+            put_range(notes, "spm", &board.spm);
+            notes.end("first: correct the linker script, or `spm` of the board")
         }
         GraphFault::PatchOverlap { segment } => {
             let segment = file.segment(segment);
-            say_segment(notes, file, &segment, " overlaps the patch range");
-            say_range(notes, "patch", &board.patch);
-            notes.say_first(patch_cure(file, &segment))
+            put_segment(notes, file, &segment, " overlaps the patch range\n");
+            put_range(notes, "patch", &board.patch);
+            notes.end(patch_cure(file, &segment))
         }
         GraphFault::NoArea { segment } => say_outside(notes, file, &file.segment(segment), board),
         GraphFault::PatchFar { .. } => say_far(notes, file, board),
-        GraphFault::SpmOverlapsPatch => {
-            notes.say_words("the scratchpad and the patch range of the board share an address");
-            say_range(notes, "spm", &board.spm);
-            say_range(notes, "patch", &board.patch);
-            notes.say_first("correct `spm` or `patch` of the board")
-        }
-        GraphFault::SpmAtZero => {
-            notes.say_words("the scratchpad of the board begins below address 16");
-            notes.say_first("correct `spm` of the board")
-        }
+        GraphFault::SpmOverlapsPatch => say_shared(notes, board),
+        GraphFault::SpmAtZero => notes.say_words(SPM_AT_ZERO),
         GraphFault::TooManyObjects { count } => {
-            let behind = " objects may move, and 4,096 are the limit";
-            notes.say_number("", u64::from(count), behind);
-            notes.say_first("keep some by `fix` of the board")
+            notes.say(TOO_MANY_OBJECTS, &[Piece::Number(u64::from(count))])
         }
         GraphFault::Memory => {}
     }
 }
 
+/// A scratchpad that shares an address with the patch range.
+fn say_shared(notes: &mut Notes, board: &Board) {
+    notes.begin(
+        "the scratchpad and the patch range of the board share an address\n",
+        &[],
+    );
+    put_range(notes, "spm", &board.spm);
+    put_range(notes, "patch", &board.patch);
+    notes.end("first: correct `spm` or `patch` of the board");
+}
+
 /// What to do about a segment in the patch range. One without a section is as relinking makes it.
 fn patch_cure(file: &UncheckedFile, segment: &RawSegment) -> &'static str {
     if file.first_section(segment).is_empty() {
-        "give the file that the linker wrote: this one has been relinked, and can't be once more"
+        "first: give the file that the linker wrote: this one has been relinked, and can't be once more"
     } else {
-        "correct the linker script, or `patch` of the board"
+        "first: correct the linker script, or `patch` of the board"
     }
 }
 
-/// A segment by its range.
-fn say_segment<'a>(
-    notes: &mut Notes,
-    file: &UncheckedFile<'a>,
-    segment: &RawSegment,
-    words: &'a str,
-) {
-    notes.say(&[
-        Piece::Text("the segment of "),
-        Piece::Name(file.first_section(segment)),
-        Piece::Text(", from "),
-        Piece::Hex(segment.vaddr),
-        Piece::Text(" to "),
-        Piece::Hex(segment.vaddr.wrapping_add(segment.memsz)),
-        Piece::Text(","),
-        Piece::Text(words),
-    ]);
+/// Begins a line by a segment's range, and goes on with words.
+fn put_segment(notes: &mut Notes, file: &UncheckedFile, segment: &RawSegment, words: &str) {
+    notes.begin(
+        "the segment of {}, from {} to {},",
+        &[
+            Piece::Name(file.first_section(segment)),
+            Piece::Hex(segment.vaddr),
+            Piece::Hex(segment.vaddr.wrapping_add(segment.memsz)),
+        ],
+    );
+    notes.put(words, &[]);
 }
 
-fn say_range(notes: &mut Notes, key: &str, range: &Range) {
-    notes.say(&[
-        Piece::Name(key.as_bytes()),
-        Piece::Text(" of the board is from "),
-        Piece::Hex(range.base),
-        Piece::Text(" to "),
-        Piece::Hex(range.base.wrapping_add(range.size)),
-    ]);
+/// Goes on by a line of a range of the board, and begins another line.
+fn put_range(notes: &mut Notes, key: &str, range: &Range) {
+    notes.put(
+        "{} of the board is from {} to {}\n",
+        &[
+            Piece::Name(key.as_bytes()),
+            Piece::Hex(range.base),
+            Piece::Hex(range.base.wrapping_add(range.size)),
+        ],
+    );
 }
 
 /// A segment outside the board's memories.
 fn say_outside(notes: &mut Notes, file: &UncheckedFile, segment: &RawSegment, board: &Board) {
-    say_segment(notes, file, segment, " lies in no memory of the board");
-    say_range(notes, "main", &board.main);
-    notes.say_first(if segment.offset == 0 {
-        "the segment begins with the ELF header: link with -Wl,-N or a linker script, or make `main` larger"
+    put_segment(notes, file, segment, " lies in no memory of the board\n");
+    put_range(notes, "main", &board.main);
+    notes.end(if segment.offset == 0 {
+        "first: the segment begins with the ELF header: link with -Wl,-N or a linker script, or make `main` larger"
     } else {
-        "correct the linker script, or `main` or `areas` of the board"
+        "first: correct the linker script, or `main` or `areas` of the board"
     });
 }
 
 /// Code that lies far from the patch range or from other code.
 fn say_far(notes: &mut Notes, file: &UncheckedFile, board: &Board) {
-    notes.say_words("the code and the patch range span over 1 MiB, more than a jump reaches:");
-    say_code(notes, file);
-    say_range(notes, "patch", &board.patch);
-    notes.say_first(
-        "link all code together, .init too (-Wl,-N -Wl,--section-start=.init=ADDRESS), near `patch`",
+    notes.begin(
+        "the code and the patch range span over 1 MiB, more than a jump reaches:\n",
+        &[],
+    );
+    put_code(notes, file);
+    put_range(notes, "patch", &board.patch);
+    notes.end(
+        "first: link all code together, .init too (-Wl,-N -Wl,--section-start=.init=ADDRESS), near `patch`",
     );
 }
 
-/// The first sections of code.
-fn say_code(notes: &mut Notes, file: &UncheckedFile) {
+/// Goes on by a line for each of the first sections of code, and begins another line.
+fn put_code(notes: &mut Notes, file: &UncheckedFile) {
     let mut told: u32 = 0;
     for k in 0..file.section_count() {
         let section = file.section(k);
         if section.is_code() && told < TOLD_SECTIONS {
             told += 1;
-            notes.say(&[
-                Piece::Text("  code of "),
-                Piece::Name(file.section_name(k)),
-                Piece::Text(" at "),
-                Piece::Hex(section.addr),
-            ]);
+            notes.put(
+                "  code of {} at {}\n",
+                &[Piece::Name(file.section_name(k)), Piece::Hex(section.addr)],
+            );
         }
     }
 }

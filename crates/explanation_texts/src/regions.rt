@@ -13,51 +13,43 @@ pub struct Barrier<'a> {
     pub leader: u32,
 }
 
+/// The functions that the board's driver calls make no regions.
+pub const IDLE_DRIVER: &str =
+    "no region comes of what `driver` of the board, {}, calls\nfirst: let `driver` be the function that calls the phases one after the other, or list their functions by `regions`";
+
+/// How many bytes of the patch range a result takes, where that is most of them, and how many it has.
+pub const FULL_PATCH: &str =
+    "the result takes {} of the {} bytes of `patch` of the board: a larger range may let more move";
+
 /// A region that the board lists became none.
 pub fn say_lost_region(notes: &mut Notes, file: &UncheckedFile, number: u64, barriers: &[Barrier]) {
-    notes.say_number(
-        "region ",
-        number,
-        " of the board became none; the other regions of the list work without it",
+    notes.begin(
+        "region {} of the board became none; the other regions of the list work without it\n",
+        &[Piece::Number(number)],
     );
-    for barrier in barriers {
-        notes.begin("  control enters it");
-        put_place(notes, file, barrier.leader);
-        notes.end(", where no register from x5 to x31 is dead");
-    }
     if barriers.is_empty() {
-        notes.say_words("  the first instruction where control enters it can't be led there");
+        notes.end("  the first instruction where control enters it can't be led there");
         return;
     }
-    notes.begin("first: leave out of its list");
-    for (place, barrier) in barriers.iter().enumerate() {
-        let before = before_name(place, " ");
-        notes.put(&[Piece::Text(before), Piece::Name(barrier.function)]);
+    for barrier in barriers {
+        notes.put("  control enters it", &[]);
+        put_place(notes, file, barrier.leader);
+        notes.put(", where no register from x5 to x31 is dead\n", &[]);
     }
+    put_left_out(notes, barriers);
     notes.end(", and keep the others");
 }
 
-/// The functions that the board's driver calls make no regions.
-pub fn say_idle_driver(notes: &mut Notes, driver: &str) {
-    notes.say(&[
-        Piece::Text("no region comes of what `driver` of the board, "),
-        Piece::Name(driver.as_bytes()),
-        Piece::Text(", calls"),
-    ]);
-    notes.say_first(
-        "let `driver` be the function that calls the phases one after the other, or list their functions by `regions`",
-    );
-}
-
-/// How much of the patch range a result takes, where that is most of it.
-pub fn say_full_patch(notes: &mut Notes, patch: &Range, taken: u32) {
-    notes.say(&[
-        Piece::Text("the result takes "),
-        Piece::Number(u64::from(taken)),
-        Piece::Text(" of the "),
-        Piece::Number(u64::from(patch.size)),
-        Piece::Text(" bytes of `patch` of the board: a larger range may let more move"),
-    ]);
+/// Goes on with a line by the functions to be left out of a region.
+fn put_left_out(notes: &mut Notes, barriers: &[Barrier]) {
+    notes.put("first: leave out of its list", &[]);
+    for (place, barrier) in barriers.iter().enumerate() {
+        let before = before_name(place, " ");
+        notes.put(
+            "{}{}",
+            &[Piece::Text(before), Piece::Name(barrier.function)],
+        );
+    }
 }
 
 /// Calls of a run from a piece of code that moved to a block of the same piece that is no entry of it.
@@ -79,34 +71,35 @@ pub struct InwardCalls {
 
 /// The inward calls of a run, and what they cost.
 pub fn say_inward(notes: &mut Notes, file: &UncheckedFile, calls: &InwardCalls) {
-    notes.begin(match calls.line {
-        Some(_) => "the run on line ",
-        None => "the measured run makes ",
-    });
-    if let Some(line) = calls.line {
-        notes.put(&[Piece::Number(line), Piece::Text(" of MIX makes ")]);
+    let count = Piece::Number(calls.count);
+    match calls.line {
+        Some(line) => notes.begin(
+            "the run on line {} of MIX makes {} inward calls",
+            &[Piece::Number(line), count],
+        ),
+        None => notes.begin("the measured run makes {} inward calls", &[count]),
     }
-    notes.put(&[Piece::Number(calls.count), Piece::Text(" inward calls")]);
     match calls.paid {
-        Some((paid, after)) => notes.put(&[
-            Piece::Text(": OUT pays "),
-            Piece::Number(paid),
-            Piece::Text(", not "),
-            Piece::Number(after),
-        ]),
-        None => notes.put(&[Piece::Text(", so OUT may pay more than `after`")]),
+        Some((paid, after)) => notes.put(
+            ": OUT pays {}, not {}",
+            &[Piece::Number(paid), Piece::Number(after)],
+        ),
+        None => notes.put(", so OUT may pay more than `after`", &[]),
     }
-    notes.end(match calls.line {
-        Some(_) => ": relink on this input alone tells how much such calls cost",
-        None => "",
-    });
-    notes.begin("  code that moved calls,");
+    notes.put(
+        if calls.line.is_some() {
+            ": relink on this input alone tells how much such calls cost\n  code that moved calls,"
+        } else {
+            "\n  code that moved calls,"
+        },
+        &[],
+    );
     put_place(notes, file, calls.at);
-    notes.put(&[Piece::Text(", what stays at home,")]);
+    notes.put(", what stays at home,", &[]);
     put_place(notes, file, calls.target);
-    notes.end("");
-    if !calls.is_first {
-        return;
-    }
-    notes.say_first("make what is called an entry: .type LABEL, @function, in front of its label");
+    notes.end(if calls.is_first {
+        "\nfirst: make what is called an entry: .type LABEL, @function, in front of its label"
+    } else {
+        ""
+    });
 }

@@ -1,4 +1,4 @@
-use crate::cures::{Cure, CureRow, OTHER_RELOCATION, cure_of, text_at};
+use crate::cures::{CureRow, OTHER_RELOCATION, say_cure, text_at};
 use crate::notes::{Notes, Piece};
 use crate::places::put_place;
 use crate::thread_locals::{is_thread_local, say_thread_local};
@@ -72,60 +72,49 @@ const KINDS: [&str; 60] = [
 const CURES: [CureRow; 3] = [
     CureRow {
         numbers: &[20],
-        cure: Cure {
-            cause: "position-independent code takes the address from a table",
-            first: "compile and assemble with -fno-pie, and link with -no-pie",
-        },
+        words: "position-independent code takes the address from a table\nfirst: compile and assemble with -fno-pie, and link with -no-pie",
     },
     CureRow {
         numbers: &[47, 48],
-        cure: Cure {
-            cause: "the linker made the address by the gp register",
-            first: "link with -Wl,--no-relax (or compile with -msmall-data-limit=0 and set no gp)",
-        },
+        words: "the linker made the address by the gp register\nfirst: link with -Wl,--no-relax (or compile with -msmall-data-limit=0 and set no gp)",
     },
     CureRow {
         numbers: &[44, 45, 46],
-        cure: Cure {
-            cause: "the code is compressed",
-            first: "compile with -march=rv32im -mabi=ilp32",
-        },
+        words: "the code is compressed\nfirst: compile with -march=rv32im -mabi=ilp32",
     },
 ];
 
 /// A relocation of a kind that is not supported.
 pub(crate) fn say_unsupported(notes: &mut Notes, file: &UncheckedFile, index: u32, kind: u32) {
     if let Some(relocation) = file.relocation(index) {
-        notes.begin("relocation ");
-        notes.put(&[
-            Piece::Number(u64::from(index)),
-            Piece::Text(" in section "),
-            Piece::Name(file.section_name(relocation.section)),
-            Piece::Text(" is "),
-        ]);
+        notes.begin(
+            "relocation {} in section {} is ",
+            &[
+                Piece::Number(u64::from(index)),
+                Piece::Name(file.section_name(relocation.section)),
+            ],
+        );
         put_kind(notes, kind);
-        notes.put(&[
-            Piece::Text(" of "),
-            Piece::Name(file.text(relocation.symbol.name)),
-        ]);
-        notes.end("");
-        notes.begin("it changes the word");
+        notes.put(
+            " of {}\nit changes the word",
+            &[Piece::Name(file.text(relocation.symbol.name))],
+        );
         put_place(notes, file, relocation.at);
         notes.end("");
     }
     if is_thread_local(kind) {
         say_thread_local(notes, file);
-        return;
+    } else {
+        say_cure(notes, &CURES, kind, OTHER_RELOCATION);
     }
-    cure_of(&CURES, kind, OTHER_RELOCATION).say(notes);
 }
 
 /// Goes on with a line by the name of a kind, or its number where it has none.
 fn put_kind(notes: &mut Notes, kind: u32) {
     let name = text_at(&KINDS, kind);
     if name.is_empty() {
-        notes.put(&[Piece::Text("kind "), Piece::Number(u64::from(kind))]);
-        return;
+        notes.put("kind {}", &[Piece::Number(u64::from(kind))]);
+    } else {
+        notes.put(name, &[]);
     }
-    notes.put(&[Piece::Text(name)]);
 }

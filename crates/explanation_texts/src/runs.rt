@@ -7,7 +7,7 @@ use crate::places::put_place;
 use unchecked_file::UncheckedFile;
 
 /// What the reasons of address faults mean, by their numbers.
-pub(crate) const REASONS: [&str; 10] = [
+const REASONS: [&str; 10] = [
     "",
     "it reads or writes outside the object that it addresses",
     "its address is not aligned",
@@ -19,6 +19,11 @@ pub(crate) const REASONS: [&str; 10] = [
     "the call takes an address where a number is due, or writes one out",
     "it writes into an object that is not writable",
 ];
+
+/// What the reason of an address fault means, by its number.
+pub(crate) fn reason_of(why: u32) -> &'static str {
+    text_at(&REASONS, why)
+}
 
 /// What is known by name of an address fault. Empty names are not known.
 #[derive(Clone, Copy)]
@@ -37,43 +42,35 @@ pub struct Involved<'a> {
     pub has_anchors: bool,
 }
 
+/// A function that a compiler calls where it finds a loop that does the same, and that calls itself.
+pub const CALLING_ITSELF: &str =
+    "{} calls itself: the compiler found that its loop does what the function does, and made a call of it\nfirst: compile with -fno-tree-loop-distribute-patterns, -fno-builtin or -ffreestanding";
+
 /// A measured run that trapped at an address, in so many steps.
 pub fn say_trapped(notes: &mut Notes, file: &UncheckedFile, steps: u64, pc: u32) {
     say_instruction(notes, file, "the measured run trapped", pc);
-    let behind = if steps == 1 { " step" } else { " steps" };
-    notes.say_number("what is told is of ", steps, behind);
-    notes.say_first("leave out what RV32IM lacks (no CSR instructions, -march=rv32im)");
+    let words = if steps == 1 {
+        "what is told is of {} step\nfirst: leave out what RV32IM lacks (no CSR instructions, -march=rv32im)"
+    } else {
+        "what is told is of {} steps\nfirst: leave out what RV32IM lacks (no CSR instructions, -march=rv32im)"
+    };
+    notes.say(words, &[Piece::Number(steps)]);
 }
 
 /// A measured run that went on at the end of its steps, and the address where it stood. It fails only where no memory
 /// was left.
 pub fn say_still_running(notes: &mut Notes, file: &UncheckedFile, steps: u64, at: u32) {
-    notes.say_number(
-        "the board allows ",
-        steps,
-        " steps, and the measured run went on; what is told is of these alone",
+    notes.say(
+        "the board allows {} steps, and the measured run went on; what is told is of these alone",
+        &[Piece::Number(steps)],
     );
     say_instruction(notes, file, "it stood", at);
-    notes.say_first(MORE_STEPS);
-}
-
-/// A function that a compiler calls where it finds a loop that does the same, and that calls itself. It fails only where no
-/// memory was left.
-pub fn say_calling_itself(notes: &mut Notes, name: &[u8]) {
-    notes.say(&[
-        Piece::Name(name),
-        Piece::Text(
-            " calls itself: the compiler found that its loop does what the function does, and made a call of it",
-        ),
-    ]);
-    notes.say_first(
-        "compile with -fno-tree-loop-distribute-patterns, -fno-builtin or -ffreestanding",
-    );
+    notes.say_words(MORE_STEPS);
 }
 
 /// A line of words, a place, and the instruction that stands there.
 pub(crate) fn say_instruction(notes: &mut Notes, file: &UncheckedFile, words: &str, at: u32) {
-    notes.begin(words);
+    notes.begin(words, &[]);
     put_place(notes, file, at);
     end_by_instruction(notes, file.code_word(at));
 }
@@ -86,29 +83,30 @@ pub fn explain_fault(
     involved: &Involved,
 ) {
     say_instruction(notes, file, "address fault", fault.pc);
-    notes.say_words(text_at(&REASONS, fault.why));
-    if let Some(origin) = fault.culprit.origin {
-        say_origin(notes, file, involved.object, &origin);
-    }
-    if let Some(origin) = fault.culprit.other {
-        say_origin(notes, file, involved.other, &origin);
-    }
+    notes.say_words(reason_of(fault.why));
+    say_origin(notes, file, involved.object, fault.culprit.origin);
+    say_origin(notes, file, involved.other, fault.culprit.other);
     let Some(address) = fault.culprit.address else {
         return;
     };
-    notes.begin("it addresses ");
-    notes.put(&[Piece::Hex(address)]);
     if involved.bytes.is_empty() {
-        notes.end(", which is of no section");
-        return;
+        notes.say(
+            "it addresses {}, which is of no section",
+            &[Piece::Hex(address)],
+        );
+    } else {
+        notes.say(
+            "it addresses {}, of {}",
+            &[Piece::Hex(address), Piece::Name(involved.bytes)],
+        );
     }
-    notes.put(&[Piece::Text(", of "), Piece::Name(involved.bytes)]);
-    notes.end("");
 }
 
-/// The object of whose address a value was made, and how.
-fn say_origin(notes: &mut Notes, file: &UncheckedFile, object: &[u8], origin: &Origin) {
-    notes.begin("the value comes of the address of ");
+/// The object of whose address a value was made, if it was made of one, and how.
+fn say_origin(notes: &mut Notes, file: &UncheckedFile, object: &[u8], origin: Option<Origin>) {
+    let Some(origin) = origin else {
+        return;
+    };
     let way = match origin.way {
         Way::Upper => ", and is its upper part",
         Way::Address => "",
@@ -116,7 +114,10 @@ fn say_origin(notes: &mut Notes, file: &UncheckedFile, object: &[u8], origin: &O
         Way::Computed => ", with which other arithmetic was done than to add a number",
         Way::Tested => ", of which it was asked as a value whether it is null (p == 0)",
     };
-    notes.put(&[Piece::Name(object), Piece::Text(way)]);
+    notes.begin(
+        "the value comes of the address of {}{}",
+        &[Piece::Name(object), Piece::Text(way)],
+    );
     if let Some(at) = origin.made {
         put_place(notes, file, at);
     }

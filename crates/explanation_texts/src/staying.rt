@@ -49,53 +49,36 @@ pub struct StayingItem<'a> {
     pub reason: StayingReason,
 }
 
+/// What the reads and writes of what may not move cost.
+pub const STAYING_REST: &str =
+    "stays, with {} of the energy before: the stack and data that may not move";
+
 /// What stays, and why.
 pub fn say_staying(notes: &mut Notes, item: &StayingItem) {
-    begin_staying(notes, item.share);
-    notes.put(&[
-        Piece::Text(if item.is_code { "code of " } else { "" }),
-        Piece::Name(item.name),
-        Piece::Text(": "),
-    ]);
+    let words = if item.is_code {
+        "stays, with {} of the energy before: code of {}: "
+    } else {
+        "stays, with {} of the energy before: {}: "
+    };
+    notes.begin(words, &[Piece::Percent(item.share), Piece::Name(item.name)]);
     put_reason(notes, item);
     notes.end("");
 }
 
-/// What the reads and writes of what may not move cost.
-pub fn say_staying_rest(notes: &mut Notes, share: u64) {
-    begin_staying(notes, share);
-    notes.end("the stack and data that may not move");
-}
-
-fn begin_staying(notes: &mut Notes, share: u64) {
-    notes.begin("stays, with ");
-    notes.put(&[
-        Piece::Percent(share),
-        Piece::Text(" of the energy before: "),
-    ]);
-}
-
 fn put_reason(notes: &mut Notes, item: &StayingItem) {
     match item.reason {
-        StayingReason::TooLong { at, bytes } => notes.put(&[
-            Piece::Text("its block at "),
-            Piece::Hex(at),
-            Piece::Text(" has "),
-            Piece::Number(u64::from(bytes)),
-            Piece::Text(" bytes, and a copy may have 4096"),
-        ]),
-        StayingReason::NoRegister { at } => notes.put(&[
-            Piece::Text("its block at "),
-            Piece::Hex(at),
-            Piece::Text(
-                " can't be copied, since no register is free where it is entered or left; where a switch goes by a table, -fno-jump-tables may free one",
-            ),
-        ]),
-        StayingReason::Stops { at } => notes.put(&[
-            Piece::Text("its block at "),
-            Piece::Hex(at),
-            Piece::Text(" can't be copied, since the program or the code ends with it"),
-        ]),
+        StayingReason::TooLong { at, bytes } => notes.put(
+            "its block at {} has {} bytes, and a copy may have 4096",
+            &[Piece::Hex(at), Piece::Number(u64::from(bytes))],
+        ),
+        StayingReason::NoRegister { at } => notes.put(
+            "its block at {} can't be copied, since no register is free where it is entered or left; where a switch goes by a table, -fno-jump-tables may free one",
+            &[Piece::Hex(at)],
+        ),
+        StayingReason::Stops { at } => notes.put(
+            "its block at {} can't be copied, since the program or the code ends with it",
+            &[Piece::Hex(at)],
+        ),
         StayingReason::NoGain { cost, saved } => put_no_gain(notes, item.is_code, cost, saved),
         StayingReason::NoRoom {
             room,
@@ -104,60 +87,56 @@ fn put_reason(notes: &mut Notes, item: &StayingItem) {
             have,
         } => put_no_room(notes, room, needed, left, have),
         StayingReason::OthersSaveMore => {
-            notes.put(&[Piece::Text("what was taken in its place saves more")])
+            notes.put("what was taken in its place saves more", &[])
         }
     }
 }
 
 /// What a copy costs and saves, and from how many repetitions of the run on it pays, as far as these alone tell.
 fn put_no_gain(notes: &mut Notes, is_code: bool, cost: u64, saved: u64) {
-    notes.put(&[Piece::Text("to copy it costs "), Piece::Number(cost)]);
-    let Some(times) = cost.checked_div(saved) else {
-        notes.put(&[Piece::Text(", and it saves nothing in this run")]);
-        return;
+    let times = cost.checked_div(saved);
+    let words = match (times, is_code) {
+        (None, _) => "to copy it costs {}, and it saves nothing in this run",
+        (Some(0), true) =>
+            "to copy it costs {}, and it saves at most {} in this run, less what control pays to enter and leave it",
+        (Some(0), false) => "to copy it costs {}, and it saves {} in this run",
+        (Some(_), true) =>
+            "to copy it costs {}, and it saves at most {} in this run: it pays not before {} such runs",
+        (Some(_), false) =>
+            "to copy it costs {}, and it saves {} in this run: it pays from {} such runs on",
     };
-    notes.put(&[
-        Piece::Text(", and it saves "),
-        Piece::Text(if is_code { "at most " } else { "" }),
-        Piece::Number(saved),
-        Piece::Text(" in this run"),
-    ]);
-    let runs = Piece::Number(times.saturating_add(1));
-    match (times, is_code) {
-        (0, true) => notes.put(&[Piece::Text(", less what control pays to enter and leave it")]),
-        (0, false) => {}
-        (_, true) => notes.put(&[
-            Piece::Text(": it pays not before "),
-            runs,
-            Piece::Text(" such runs"),
-        ]),
-        (_, false) => notes.put(&[
-            Piece::Text(": it pays from "),
-            runs,
-            Piece::Text(" such runs on"),
-        ]),
-    }
+    let runs = times.unwrap_or(0).saturating_add(1);
+    notes.put(
+        words,
+        &[
+            Piece::Number(cost),
+            Piece::Number(saved),
+            Piece::Number(runs),
+        ],
+    );
 }
 
 /// How many bytes are needed and left of so many, and with how many in all there would be room.
 fn put_no_room(notes: &mut Notes, room: Room, needed: u64, left: u64, have: u64) {
-    notes.put(&[
-        Piece::Text("it needs "),
-        Piece::Number(needed),
-        Piece::Text(match room {
-            Room::Scratchpad => " bytes of the scratchpad, and ",
-            Room::PatchRange => " bytes of the patch range, and ",
-        }),
-    ]);
+    let name = Piece::Text(match room {
+        Room::Scratchpad => "scratchpad",
+        Room::PatchRange => "patch range",
+    });
     if needed > have {
-        notes.put(&[Piece::Text("it has "), Piece::Number(have)]);
+        notes.put(
+            "it needs {} bytes of the {}, and it has {}",
+            &[Piece::Number(needed), name, Piece::Number(have)],
+        );
         return;
     }
     let all = have.saturating_add(needed.saturating_sub(left));
-    notes.put(&[
-        Piece::Number(left),
-        Piece::Text(" are left: "),
-        Piece::Number(all),
-        Piece::Text(" in all would do"),
-    ]);
+    notes.put(
+        "it needs {} bytes of the {}, and {} are left: {} in all would do",
+        &[
+            Piece::Number(needed),
+            name,
+            Piece::Number(left),
+            Piece::Number(all),
+        ],
+    );
 }

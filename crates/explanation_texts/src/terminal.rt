@@ -1,5 +1,6 @@
 use shelf_io::Progress;
 use std::cell::Cell;
+use std::fmt::Display;
 use std::time::Clock;
 
 /// When something was first told of, and last, in milliseconds since the command began.
@@ -23,9 +24,13 @@ impl Span {
             },
         }
     }
+}
 
-    fn seconds(self) -> u64 {
-        self.last.saturating_sub(self.first) / 1000
+/// The seconds of a span; 0 where nothing was told of.
+fn seconds_of(span: Option<Span>) -> u64 {
+    match span {
+        Some(span) => span.last.saturating_sub(span.first) / 1000,
+        None => 0,
     }
 }
 
@@ -94,6 +99,13 @@ impl<R: Clock + Eprint> Terminal<R> {
         self.is_terminal && now >= next
     }
 
+    /// Writes the line anew, with the seconds since the command began.
+    fn tell(&self, now: u64, words: impl Display + Drop) {
+        self.told.set(Some(now));
+        let seconds = now / 1000;
+        let _ = eprint!(self.rt; "\rspmlink: {words}, {seconds} s\x1b[K");
+    }
+
     /// Takes the line away, if one stands there.
     pub fn clear(&self) {
         if self.told.take().is_some() {
@@ -108,8 +120,8 @@ impl<R: Clock + Eprint> Terminal<R> {
             return;
         }
         let all = now / 1000;
-        let runs = self.runs.get().map_or(0, Span::seconds);
-        let search = self.search.get().map_or(0, Span::seconds);
+        let runs = seconds_of(self.runs.get());
+        let search = seconds_of(self.search.get());
         let rest = all.saturating_sub(runs).saturating_sub(search);
         let _ = eprintln!(self.rt;
             "spmlink: {all} s: {runs} s for the measured runs, {search} s for the search, {rest} s for all else"
@@ -122,33 +134,26 @@ impl<R: Clock + Eprint> Progress for Terminal<R> {
         let now = self.now();
         self.runs.set(Some(Span::to(self.runs.get(), now)));
         if self.is_due(now) {
-            self.told.set(Some(now));
-            let seconds = now / 1000;
-            let _ = eprint!(self.rt;
-                "\rspmlink: {done} of at most {most} steps, {seconds} s\x1b[K"
-            );
+            self.tell(now, format_args!("{done} of at most {most} steps"));
         }
     }
 
     fn nodes(&self, left: u64, saved: u128, bound: Option<u128>) {
         let now = self.now();
         self.search.set(Some(Span::to(self.search.get(), now)));
-        if self.is_due(now) {
-            self.told.set(Some(now));
-            let seconds = now / 1000;
-            let _ = match bound {
-                Some(bound) => {
-                    let tenths = gap(saved, bound);
-                    eprint!(self.rt;
-                        "\rspmlink: search: {left} nodes left, {}.{} % below the bound, {seconds} s\x1b[K",
-                        tenths / 10,
-                        tenths % 10
-                    )
-                }
-                None => eprint!(self.rt;
-                    "\rspmlink: search: {left} nodes left, saves {saved}, {seconds} s\x1b[K"
-                ),
-            };
+        if !self.is_due(now) {
+            return;
+        }
+        match bound {
+            Some(bound) => {
+                let tenths = gap(saved, bound);
+                let (whole, tenths) = (tenths / 10, tenths % 10);
+                self.tell(
+                    now,
+                    format_args!("search: {left} nodes left, {whole}.{tenths} % below the bound"),
+                )
+            }
+            None => self.tell(now, format_args!("search: {left} nodes left, saves {saved}")),
         }
     }
 }

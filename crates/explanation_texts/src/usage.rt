@@ -184,6 +184,11 @@ const COMMANDS: [Command; 13] = [
     },
 ];
 
+/// All commands.
+fn commands() -> &'static [Command] {
+    &COMMANDS
+}
+
 /// First words that ask for the table of commands.
 const HELP: [&str; 3] = ["--help", "-h", "help"];
 
@@ -192,7 +197,7 @@ const VERSION: [&str; 3] = ["--version", "-V", "version"];
 
 /// The command of a word, if there is one.
 pub fn command_of(word: &str) -> Option<&'static Command> {
-    for command in &COMMANDS {
+    for command in commands() {
         if command.word == word {
             return Some(command);
         }
@@ -222,7 +227,7 @@ fn explain_first(notes: &mut Notes, word: &str) {
         return;
     }
     if !HELP.contains(&word) {
-        notes.say(&[Piece::Name(word.as_bytes()), Piece::Text(" is no command")]);
+        notes.say("{} is no command", &[Piece::Name(word.as_bytes())]);
     }
     say_all(notes);
 }
@@ -230,24 +235,24 @@ fn explain_first(notes: &mut Notes, word: &str) {
 /// A line for each command.
 fn say_all(notes: &mut Notes) {
     notes.say_words("usage: spmlink and one of");
-    for command in &COMMANDS {
-        say_usage(notes, "  ", command);
+    for command in commands() {
+        say_usage(notes, "  {} {}: {}", command);
     }
     notes.say_words(
         "for example: spmlink relink upper.elf examples/default.toml input upper.new.elf upper.cert",
     );
 }
 
-/// A line of some words and a command.
-fn say_usage(notes: &mut Notes, before: &str, command: &Command) {
-    notes.say(&[
-        Piece::Text(before),
-        Piece::Text(command.word),
-        Piece::Text(" "),
-        Piece::Text(command.operands),
-        Piece::Text(": "),
-        Piece::Text(command.purpose),
-    ]);
+/// A line of words with gaps for a command's word, its operands and its purpose.
+fn say_usage(notes: &mut Notes, words: &str, command: &Command) {
+    notes.say(
+        words,
+        &[
+            Piece::Text(command.word),
+            Piece::Text(command.operands),
+            Piece::Text(command.purpose),
+        ],
+    );
 }
 
 /// What is wrong with the words behind that of a command.
@@ -259,14 +264,14 @@ fn explain_operands(notes: &mut Notes, command: &Command, words: &[String]) {
     if !asks {
         say_wrong_word(notes, command, words);
     }
-    say_usage(notes, "usage: spmlink ", command);
+    say_usage(notes, "usage: spmlink {} {}: {}", command);
 }
 
 /// The first word that is wrong.
 fn say_wrong_word(notes: &mut Notes, command: &Command, words: &[String]) {
     for (place, word) in words.iter().enumerate() {
         if let Some(reason) = fault_of_name(word.as_str()) {
-            say_word(notes, place, word.as_str(), reason);
+            say_word(notes, place, word.as_str(), reason, &[]);
             return;
         }
     }
@@ -278,13 +283,14 @@ fn say_count(notes: &mut Notes, command: &Command, words: &[String]) {
     let given = words.len().saturating_sub(1) as u64;
     let wanted = command.operands.split_whitespace().count() as u64;
     if given != wanted {
-        notes.say(&[
-            Piece::Name(command.word.as_bytes()),
-            Piece::Text(" takes "),
-            Piece::Number(wanted),
-            Piece::Text(" words, and was given "),
-            Piece::Number(given),
-        ]);
+        notes.say(
+            "{} takes {} words, and was given {}",
+            &[
+                Piece::Name(command.word.as_bytes()),
+                Piece::Number(wanted),
+                Piece::Number(given),
+            ],
+        );
         return;
     }
     match repeated(command, words) {
@@ -293,6 +299,7 @@ fn say_count(notes: &mut Notes, command: &Command, words: &[String]) {
             place,
             word,
             "has the name of another word, and what is written needs a name of its own",
+            &[],
         ),
         None if command.numbers.is_empty() => {}
         None => notes.say_words(command.numbers),
@@ -309,21 +316,14 @@ fn fault_of_name(word: &str) -> Option<&'static str> {
     None
 }
 
-/// A word, and what is wrong with it.
-fn say_word(notes: &mut Notes, place: usize, word: &str, reason: &str) {
-    begin_word(notes, place, word);
-    notes.end(reason);
-}
-
-/// Begins a line by a word.
-pub(crate) fn begin_word(notes: &mut Notes, place: usize, word: &str) {
-    notes.begin("word ");
-    notes.put(&[
-        Piece::Number(place as u64),
-        Piece::Text(", "),
-        Piece::Name(word.as_bytes()),
-        Piece::Text(", "),
-    ]);
+/// A line that begins by a word of the command line, and goes on by other words, whose gaps these pieces fill.
+pub(crate) fn say_word(notes: &mut Notes, place: usize, word: &str, words: &str, pieces: &[Piece]) {
+    notes.begin(
+        "word {}, {}, ",
+        &[Piece::Number(place as u64), Piece::Name(word.as_bytes())],
+    );
+    notes.put(words, pieces);
+    notes.end("");
 }
 
 /// A name that is written and that another word has, too, and its place.

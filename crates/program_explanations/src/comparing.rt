@@ -2,8 +2,8 @@ use crate::pairing::{explain_pairing, unsure_units};
 use crate::subject::Subject;
 use board_config::Board;
 use explanation_texts::{
-    BOTH_DIFFER, FILE_DIFFERS, MORE_STEPS, Notes, RESULT_DIFFERS, ResultEnd, say_compared,
-    say_ended_early,
+    BOTH_DIFFER, COMPARED, EXITED_EARLY, FILE_DIFFERS, MORE_STEPS, Notes, Piece, RESULT_DIFFERS,
+    TRAPPED_EARLY,
 };
 use flat_machine::{Flat, FlatOutcome};
 use object_machine::{Outcome, Source};
@@ -45,7 +45,7 @@ pub(crate) fn explain_comparison(notes: &mut Notes, subject: &Subject) -> Result
         }
     }
     if differs {
-        RESULT_DIFFERS.say(notes);
+        notes.say_words(RESULT_DIFFERS);
     }
     Ok(())
 }
@@ -117,11 +117,14 @@ fn explain_running(
     let each = u64::from(board.spm.size) * 12 + 256;
     let most = run.steps.saturating_add(1).saturating_mul(each);
     let compared = steps_to_write(&mut machine, run.source.output().len(), most)?;
-    say_compared(notes, run.steps, compared);
+    notes.say(
+        COMPARED,
+        &[Piece::Number(run.steps), Piece::Number(compared)],
+    );
     match machine.run(run.steps.saturating_sub(compared))? {
-        FlatOutcome::Exited(code) => say_ended_early(notes, ResultEnd::Exited(code)),
-        FlatOutcome::Trapped { pc } => say_ended_early(notes, ResultEnd::Trapped { pc }),
-        FlatOutcome::GoesOn => notes.say_first(MORE_STEPS),
+        FlatOutcome::Exited(code) => { notes.say(EXITED_EARLY, &[Piece::Number(u64::from(code))]) }
+        FlatOutcome::Trapped { pc } => notes.say(TRAPPED_EARLY, &[Piece::Hex(pc)]),
+        FlatOutcome::GoesOn => notes.say_words(MORE_STEPS),
     }
     Ok(())
 }

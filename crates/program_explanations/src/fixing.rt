@@ -3,8 +3,8 @@ use crate::runs::{BY_NUMBER, FaultyRuns, NamedFault, faulty_runs};
 use crate::subject::{Inputs, Subject};
 use board_config::read_board;
 use explanation_texts::{
-    FixEnd, FixList, MORE_FAULTS, Notes, say_fault_cure, say_fix, say_further_fault, say_no_list,
-    text_with_fixed,
+    FixEnd, FixList, MORE_FAULTS, Notes, Piece, say_fault_cure, say_fix, say_further_fault,
+    say_no_list, text_with_fixed,
 };
 use relink_core::analyse;
 use std::alloc::{AllocError, Global};
@@ -61,7 +61,7 @@ pub(crate) fn explain_fixes<'a>(
     }
     if search.faults.len() > TOLD_FAULTS {
         let more = search.faults.len().saturating_sub(TOLD_FAULTS) as u64;
-        notes.say_number("", more, MORE_FAULTS);
+        notes.say(MORE_FAULTS, &[Piece::Number(more)]);
     }
     if let Some(last) = search.last {
         say_no_list(notes, &file, &last.fault);

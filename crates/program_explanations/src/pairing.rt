@@ -5,7 +5,7 @@ use crate::units::{PairedLow, UnitTable};
 use crate::unpaired::unpaired_of_run;
 use elf_reader::{ElfView, R_RISCV_PCREL_HI20};
 use explanation_texts::{
-    MixedParts, Notes, UNPAIRED_INPUT, UNPAIRED_RUN, Unpaired, say_line, say_unpaired,
+    MixedParts, Notes, Piece, UNPAIRED_INPUT, UNPAIRED_RUN, Unpaired, say_unpaired,
 };
 use loaded_file::{LoadedFile, counts, symbol_value};
 use object_graph::{Graph, is_pair_low};
@@ -76,7 +76,7 @@ pub(crate) fn explain_pairing(notes: &mut Notes, subject: &Subject) -> Result<()
         };
         if let Some(unpaired) = unpaired_of_run(subject, input, &units)? {
             if let Some(line) = line {
-                say_line(notes, line, UNPAIRED_INPUT);
+                notes.say(UNPAIRED_INPUT, &[Piece::Number(line)]);
             }
             explain_unpaired(notes, subject, &unpaired);
             break;

@@ -70,7 +70,7 @@ pub(crate) fn explain_pinned(
             && prices.spm_read >= prices.main_read
             && prices.spm_write >= prices.main_write
         {
-            notes.say_first(LOWER_PRICES);
+            notes.say_words(LOWER_PRICES);
             return Ok(());
         }
         let has_exited = match inputs.end {
@@ -78,7 +78,7 @@ pub(crate) fn explain_pinned(
             None => false,
         };
         if movable != 0 && pinned.is_empty() && has_exited {
-            notes.say_first(LONGER_RUN);
+            notes.say_words(LONGER_RUN);
             return Ok(());
         }
     }

@@ -2,8 +2,8 @@ use crate::subject::Inputs;
 use board_config::read_board;
 use code_blocks::CodeFault;
 use explanation_texts::{
-    LISTED_TWICE, NO_CODE, Notes, UNKNOWN_FUNCTION, explain_elf, explain_layout, say_listed,
-    say_many_blocks, say_small_patch,
+    LISTED_TWICE, MANY_BLOCKS, NO_CODE, Notes, Piece, SMALL_PATCH, UNKNOWN_FUNCTION, explain_elf,
+    explain_layout,
 };
 use region_former::RegionFault;
 use relink_core::AnalyseFault;
@@ -25,21 +25,37 @@ pub fn explain_refusal(notes: &mut Notes, inputs: &Inputs, fault: &AnalyseFault)
                 explain_layout(notes, &inputs.unchecked(), &board, fault);
             }
         }
-        AnalyseFault::PatchTooSmall { need, have } => say_small_patch(notes, *need, *have),
-        AnalyseFault::Code(fault) => match fault {
-            CodeFault::TooManyBlocks { count } => say_many_blocks(notes, *count),
-            CodeFault::NoText | CodeFault::EntryNotLeader => NO_CODE.say(notes),
-            CodeFault::Memory => {}
-        },
-        AnalyseFault::Region(fault) => match fault {
-            RegionFault::UnknownFunction { name } => say_listed(
-                notes,
-                name.as_str(),
-                &UNKNOWN_FUNCTION,
-            ),
-            RegionFault::TwoRegions { name } => say_listed(notes, name.as_str(), &LISTED_TWICE),
-            RegionFault::Memory => {}
-        },
+        AnalyseFault::PatchTooSmall { need, have } => notes.say(
+            SMALL_PATCH,
+            &[
+                Piece::Number(u64::from(*have)),
+                Piece::Number(u64::from(*need)),
+            ],
+        ),
+        AnalyseFault::Code(fault) => explain_code(notes, fault),
+        AnalyseFault::Region(fault) => explain_region(notes, fault),
         AnalyseFault::Memory => {}
+    }
+}
+
+fn explain_code(notes: &mut Notes, fault: &CodeFault) {
+    match fault {
+        CodeFault::TooManyBlocks { count } => {
+            notes.say(MANY_BLOCKS, &[Piece::Number(u64::from(*count))])
+        }
+        CodeFault::NoText | CodeFault::EntryNotLeader => notes.say_words(NO_CODE),
+        CodeFault::Memory => {}
+    }
+}
+
+fn explain_region(notes: &mut Notes, fault: &RegionFault) {
+    match fault {
+        RegionFault::UnknownFunction { name } => {
+            notes.say(UNKNOWN_FUNCTION, &[Piece::Name(name.as_bytes())])
+        }
+        RegionFault::TwoRegions { name } => {
+            notes.say(LISTED_TWICE, &[Piece::Name(name.as_bytes())])
+        }
+        RegionFault::Memory => {}
     }
 }

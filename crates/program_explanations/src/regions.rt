@@ -1,7 +1,7 @@
 use crate::names::symbol_name;
 use crate::subject::Subject;
 use code_blocks::Function;
-use explanation_texts::{Barrier, Notes, say_full_patch, say_idle_driver, say_lost_region};
+use explanation_texts::{Barrier, FULL_PATCH, IDLE_DRIVER, Notes, Piece, say_lost_region};
 use relink_core::Analysis;
 use rv32im::RegSet;
 use std::alloc::{AllocError, Global};
@@ -28,7 +28,7 @@ pub(crate) fn explain_regions(notes: &mut Notes, subject: &Subject) -> Result<()
     }
     let is_driven = board.regions.is_empty() && board.driver.as_str() != USUAL_DRIVER;
     if is_driven && !has_region(&analysis.regions.of_block) {
-        say_idle_driver(notes, board.driver.as_str());
+        notes.say(IDLE_DRIVER, &[Piece::Name(board.driver.as_bytes())]);
     }
     Ok(())
 }
@@ -105,7 +105,13 @@ pub(crate) fn explain_patch(notes: &mut Notes, subject: &Subject) {
         Some(segment)
             if segment.vaddr == patch.base
                 && segment.memsz > patch.size.saturating_sub(patch.size / 8) => {
-            say_full_patch(notes, patch, segment.memsz)
+            notes.say(
+                FULL_PATCH,
+                &[
+                    Piece::Number(u64::from(segment.memsz)),
+                    Piece::Number(u64::from(patch.size)),
+                ],
+            )
         }
         _ => {}
     }

@@ -5,8 +5,8 @@ use crate::subject::{RunEnd, Subject};
 use code_blocks::{Code, End};
 use elf_reader::ElfView;
 use explanation_texts::{
-    AddressFault, FAULTY_INPUT, Involved, Notes, Origin, explain_fault, is_anchor, may_keep,
-    say_calling_itself, say_fault_cure, say_line, say_load_address, say_still_running, say_trapped,
+    AddressFault, CALLING_ITSELF, FAULTY_INPUT, Involved, Notes, Origin, Piece, explain_fault,
+    is_anchor, may_keep, say_fault_cure, say_load_address, say_still_running, say_trapped,
 };
 use object_graph::Graph;
 use object_machine::Outcome;
@@ -59,7 +59,7 @@ pub fn explain_run(notes: &mut Notes, subject: &Subject) -> Result<(), AllocErro
         return Ok(());
     };
     if let Some(line) = first.line {
-        say_line(notes, line, FAULTY_INPUT);
+        notes.say(FAULTY_INPUT, &[Piece::Number(line)]);
     }
     explain_fault(notes, &file, &first.fault, &first.involved);
     if explain_itself(notes, analysis, first.fault.pc) {
@@ -81,7 +81,7 @@ fn explain_itself(notes: &mut Notes, analysis: &Analysis<'_>, address: u32) -> b
             && CALLED_FOR_LOOPS.contains(&name)
             && calls(&analysis.code, number, function.start)
         {
-            say_calling_itself(notes, name);
+            notes.say(CALLING_ITSELF, &[Piece::Name(name)]);
             return true;
         }
     }

@@ -3,8 +3,8 @@ use crate::energies::{Energies, words_of};
 use crate::names::object_name;
 use crate::subject::{Inputs, Subject};
 use explanation_texts::{
-    Measured, MovedItem, MovedPart, Notes, Standing, say_fixed_cost, say_more_items,
-    say_moved_item, say_saved,
+    FIXED_COST, MORE_ITEMS, Measured, MovedItem, MovedPart, Notes, Piece, Standing, say_moved_item,
+    say_saved,
 };
 use object_machine::Outcome;
 use placement_programme::VarName;
@@ -53,10 +53,17 @@ pub(crate) fn explain_taken(
     }
     if items.len() > TOLD_ITEMS {
         let count = items.len().saturating_sub(TOLD_ITEMS) as u64;
-        say_more_items(notes, count, chosen.thousandths(more));
+        notes.say(
+            MORE_ITEMS,
+            &[
+                Piece::Number(count),
+                Piece::Percent(chosen.thousandths(more)),
+            ],
+        );
     }
-    if !items.is_empty() {
-        say_fixed_cost(notes, chosen.thousandths(chosen.side.fixed));
+    let fixed = chosen.thousandths(chosen.side.fixed);
+    if !items.is_empty() && fixed != 0 {
+        notes.say(FIXED_COST, &[Piece::Percent(fixed)]);
     }
     Ok(())
 }

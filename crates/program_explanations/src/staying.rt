@@ -5,7 +5,9 @@ use crate::savings::home_of;
 use crate::subject::Subject;
 use code_blocks::End;
 use energy_model::{into_price, object_rounds};
-use explanation_texts::{Notes, Room, StayingItem, StayingReason, say_staying, say_staying_rest};
+use explanation_texts::{
+    Notes, Piece, Room, STAYING_REST, StayingItem, StayingReason, say_staying,
+};
 use placement_programme::Var;
 use relink_core::Analysis;
 use std::alloc::{AllocError, Global};
@@ -82,7 +84,7 @@ pub(crate) fn explain_staying(
     }
     let rest = chosen.thousandths(rest_of(subject.analysis, chosen.base, &measured.at_home));
     if rest >= LEAST_SHARE {
-        say_staying_rest(notes, rest);
+        notes.say(STAYING_REST, &[Piece::Percent(rest)]);
     }
     Ok(())
 }

@@ -1,7 +1,7 @@
 use crate::comparing::{flat_machine, run_program};
 use crate::runs::explain_end;
 use crate::subject::{RunEnd, Subject};
-use explanation_texts::{Notes, say_unended_inputs};
+use explanation_texts::{Notes, Piece, UNENDED_INPUTS};
 use flat_machine::FlatOutcome;
 use object_machine::Outcome;
 use std::alloc::AllocError;
@@ -17,7 +17,7 @@ pub(crate) fn explain_unended(notes: &mut Notes, subject: &Subject) -> Result<()
         }
     }
     if let Some((line, end)) = first {
-        say_unended_inputs(notes, count, line);
+        notes.say(UNENDED_INPUTS, &[Piece::Number(count), Piece::Number(line)]);
         explain_end(notes, &subject.inputs.unchecked(), &end);
     }
     Ok(())
