@@ -3,7 +3,7 @@ use crate::faults::{AddressFault, Way};
 use crate::notes::{Notes, Piece};
 use crate::objects::say_load_address;
 use crate::runs::{Involved, reason_of, say_instruction};
-use unchecked_file::UncheckedFile;
+use crate::unchecked::UncheckedFile;
 
 /// The greatest word, as the number -1.
 const MINUS_ONE: u32 = u32::MAX;

@@ -1,4 +1,5 @@
-//! The words of all explanations: what a command line, a board or a program lacks, in lines for standard error.
+//! The words of all explanations: what a command line, a board or a program lacks, in lines for standard error. A file that
+//! the reader refused is read without checks for them.
 #![tactic(auto)]
 
 mod answers;
@@ -22,6 +23,7 @@ mod savings;
 mod staying;
 mod terminal;
 mod thread_locals;
+mod unchecked;
 mod usage;
 
 pub use answers::explain_status;
@@ -51,4 +53,5 @@ pub use savings::{
 };
 pub use staying::{Room, STAYING_REST, StayingItem, StayingReason, say_staying};
 pub use terminal::Terminal;
+pub use unchecked::{NameNumbers, RawSegment, SectionMap, UncheckedFile};
 pub use usage::{Command, command_of, explain_words};

@@ -1,6 +1,6 @@
 use crate::cures::before_name;
 use crate::notes::{Notes, Piece};
-use unchecked_file::{RawSegment, UncheckedFile};
+use crate::unchecked::{RawSegment, UncheckedFile};
 
 /// How the names begin of the anchors that GCC makes for sections.
 const ANCHOR: &[u8] = b".LANCHOR";

@@ -3,7 +3,7 @@ use crate::faults::Unpaired;
 use crate::notes::{Notes, Piece};
 use crate::places::put_place;
 use crate::runs::say_instruction;
-use unchecked_file::UncheckedFile;
+use crate::unchecked::UncheckedFile;
 
 /// The objects of whose addresses a unit takes parts that don't belong together, by name.
 #[derive(Clone, Copy)]

@@ -1,5 +1,5 @@
 use crate::notes::{Notes, Piece};
-use unchecked_file::UncheckedFile;
+use crate::unchecked::UncheckedFile;
 
 /// Goes on with a line by a place of the code: its address, and its function or section.
 pub(crate) fn put_place(notes: &mut Notes, file: &UncheckedFile, address: u32) {

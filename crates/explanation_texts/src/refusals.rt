@@ -4,7 +4,7 @@ use crate::relocations::say_unsupported;
 use board_config::{Board, Range};
 use elf_reader::ElfFault;
 use object_graph::GraphFault;
-use unchecked_file::{RawSegment, UncheckedFile};
+use crate::unchecked::{RawSegment, UncheckedFile};
 
 /// The section headers, by their number among the tables of a file.
 const SECTION_TABLE: u32 = 4;

@@ -2,7 +2,7 @@ use crate::cures::before_name;
 use crate::notes::{Notes, Piece};
 use crate::places::put_place;
 use board_config::Range;
-use unchecked_file::UncheckedFile;
+use crate::unchecked::UncheckedFile;
 
 /// A place by which control enters a region, and can't be led there.
 #[derive(Clone, Copy)]

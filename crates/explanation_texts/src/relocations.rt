@@ -2,7 +2,7 @@ use crate::cures::{CureRow, OTHER_RELOCATION, say_cure, text_at};
 use crate::notes::{Notes, Piece};
 use crate::places::put_place;
 use crate::thread_locals::{is_thread_local, say_thread_local};
-use unchecked_file::UncheckedFile;
+use crate::unchecked::UncheckedFile;
 
 /// The names of the kinds of relocations (RISC-V psABI, "Relocations").
 const KINDS: [&str; 60] = [

@@ -4,7 +4,7 @@ use crate::faults::{AddressFault, Origin, Way};
 use crate::instructions::end_by_instruction;
 use crate::notes::{Notes, Piece};
 use crate::places::put_place;
-use unchecked_file::UncheckedFile;
+use crate::unchecked::UncheckedFile;
 
 /// What the reasons of address faults mean, by their numbers.
 const REASONS: [&str; 10] = [

@@ -1,7 +1,7 @@
 use crate::cures::before_name;
 use crate::notes::{Notes, Piece};
 use crate::places::put_place;
-use unchecked_file::UncheckedFile;
+use crate::unchecked::UncheckedFile;
 
 /// What a saving is of.
 #[derive(Clone, Copy)]

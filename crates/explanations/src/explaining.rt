@@ -3,13 +3,12 @@ use crate::inward::explain_inward;
 use crate::unread::{explain_list, explain_unread};
 use command_language::CommandFault;
 use command_line::{InputTexts, Opened, PreparedResult, open};
-use explanation_texts::{Command, Notes, explain_board, explain_status, gives_key};
+use explanation_texts::{Command, Notes, UncheckedFile, explain_board, explain_status, gives_key};
 use program_explanations::{
     Chosen, Inputs, Subject, explain_chosen, explain_end, explain_file, explain_others,
     explain_refusal, explain_run, explain_saved, may_be_unpaired,
 };
 use std::alloc::AllocError;
-use unchecked_file::UncheckedFile;
 
 /// What is to be said of what a command read and made.
 pub(crate) fn explain_seen(

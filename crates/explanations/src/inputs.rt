@@ -1,9 +1,8 @@
 use command_language::CommandFault;
 use command_line::{InputTexts, PreparedResult};
-use explanation_texts::Command;
+use explanation_texts::{Command, UncheckedFile};
 use program_explanations::{Inputs, RunEnd};
 use std::alloc::Global;
-use unchecked_file::UncheckedFile;
 
 /// What is printed where a result does what its program does, and the program goes on.
 const SAME_AND_RUNNING: &[u8] = b"same\nrunning\n";

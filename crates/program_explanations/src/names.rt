@@ -1,9 +1,8 @@
 use crate::subject::Subject;
 use elf_reader::{ElfView, STT_OBJECT};
-use explanation_texts::is_anchor;
+use explanation_texts::{NameNumbers, is_anchor};
 use object_graph::Graph;
 use std::alloc::AllocError;
-use unchecked_file::NameNumbers;
 
 /// `st_info`: the symbol names a source file, of which the local symbols behind it are.
 const FILE_SYMBOL: u8 = 4;

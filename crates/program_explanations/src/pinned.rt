@@ -5,12 +5,10 @@ use crate::stakes::{SectionStake, stakes_in};
 use crate::subject::Subject;
 use elf_reader::{ElfView, SHT_NOBITS};
 use explanation_texts::{
-    LONGER_RUN, LOWER_PRICES, Label, Notes, PinnedSection, Stake, gives_key, is_anchor, is_library,
-    say_more_sections, say_nothing_moved, say_pinned,
+    LONGER_RUN, LOWER_PRICES, Label, Notes, PinnedSection, SectionMap, Stake, gives_key, is_anchor, is_library, say_more_sections, say_nothing_moved, say_pinned,
 };
 use object_machine::Outcome;
 use std::alloc::{AllocError, Global};
-use unchecked_file::SectionMap;
 
 /// How the label of a table begins that a linker collects of a section, and that a program walks.
 const TABLE_START: &[u8] = b"__start_";

@@ -2,12 +2,10 @@ use crate::subject::Inputs;
 use board_config::read_board;
 use code_blocks::CodeFault;
 use explanation_texts::{
-    LISTED_TWICE, MANY_BLOCKS, NO_CODE, Notes, Piece, SMALL_PATCH, UNKNOWN_FUNCTION, explain_elf,
-    explain_layout,
+    LISTED_TWICE, MANY_BLOCKS, NO_CODE, SMALL_PATCH, UNKNOWN_FUNCTION, Notes, Piece, UncheckedFile, explain_elf, explain_layout,
 };
 use region_former::RegionFault;
 use relink_core::AnalyseFault;
-use unchecked_file::UncheckedFile;
 
 /// An ELF file, where it can't be read.
 pub fn explain_file(notes: &mut Notes, file: &UncheckedFile) {

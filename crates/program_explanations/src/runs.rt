@@ -5,14 +5,12 @@ use crate::subject::{RunEnd, Subject};
 use code_blocks::{Code, End};
 use elf_reader::ElfView;
 use explanation_texts::{
-    AddressFault, CALLING_ITSELF, FAULTY_INPUT, Involved, Notes, Origin, Piece, explain_fault,
-    is_anchor, may_keep, say_fault_cure, say_load_address, say_still_running, say_trapped,
+    CALLING_ITSELF, FAULTY_INPUT, AddressFault, Involved, Notes, Origin, Piece, UncheckedFile, explain_fault, is_anchor, may_keep, say_fault_cure, say_load_address, say_still_running, say_trapped,
 };
 use object_graph::Graph;
 use object_machine::Outcome;
 use relink_core::Analysis;
 use std::alloc::AllocError;
-use unchecked_file::UncheckedFile;
 
 /// The statuses of address faults: of a measured run, and of one beside a result.
 const ADDRESS_FAULTS: [u8; 2] = [8, 12];

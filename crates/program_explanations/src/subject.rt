@@ -7,7 +7,7 @@ use profile_runner::{Parts, Profile, ProfileFault, profile};
 use relink_core::Analysis;
 use shelf_io::NoProgress;
 use std::alloc::{AllocError, Global};
-use unchecked_file::{RawSegment, UncheckedFile};
+use explanation_texts::{RawSegment, UncheckedFile};
 
 /// How the run ended by which a command measured a program.
 #[derive(Clone, Copy)]

@@ -1,5 +1,5 @@
-use crate::records::{RawSymbol, UncheckedFile};
-use crate::section_map::SectionMap;
+use crate::unchecked::records::{RawSymbol, UncheckedFile};
+use crate::unchecked::section_map::SectionMap;
 use std::alloc::{AllocError, Global};
 
 /// The functions and labels of a file, in which many addresses are looked up.

@@ -1,4 +1,4 @@
-use crate::records::UncheckedFile;
+use crate::unchecked::records::UncheckedFile;
 use std::alloc::{AllocError, Global};
 use std::collections::BTreeSet;
 

@@ -1,6 +1,4 @@
-//! The fields of an ELF file as they stand, for words on a file that the reader refused. Nothing is checked.
-#![tactic(auto)]
-
+// The fields of an ELF file as they stand, for words on a file that the reader refused. Nothing is checked.
 mod code_symbols;
 mod names;
 mod records;
