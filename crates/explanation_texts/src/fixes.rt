@@ -26,7 +26,7 @@ const CURES: [&str; 10] = [
 ];
 
 /// What a search for objects to keep came to.
-#[derive(Clone, Copy, PartialEq, Eq)]
+#[derive(Clone, Copy)]
 pub enum FixEnd {
     /// With these kept the run meets no address fault.
     Whole,
@@ -141,10 +141,11 @@ pub fn say_no_list(notes: &mut Notes, file: &UncheckedFile, fault: &AddressFault
 
 /// The list, as one line of the board, and what else lets the objects move.
 pub fn say_fix(notes: &mut Notes, list: &FixList, fault: &AddressFault, involved: &Involved) {
-    let words = if list.end == FixEnd::Whole {
-        "first: write the next line into the board{}: with it this run meets no address fault, as {} {} showed"
-    } else {
-        "first: write the next line into the board{}: with it this run comes further; a list with which it meets no address fault was not found in {} {}"
+    let words = match list.end {
+        FixEnd::Whole =>
+            "first: write the next line into the board{}: with it this run meets no address fault, as {} {} showed",
+        FixEnd::Cut | FixEnd::Useless =>
+            "first: write the next line into the board{}: with it this run comes further; a list with which it meets no address fault was not found in {} {}",
     };
     notes.say(
         words,

@@ -153,7 +153,10 @@ impl<R: Clock + Eprint> Progress for Terminal<R> {
                     format_args!("search: {left} nodes left, {whole}.{tenths} % below the bound"),
                 )
             }
-            None => self.tell(now, format_args!("search: {left} nodes left, saves {saved}")),
+            None => self.tell(
+                now,
+                format_args!("search: {left} nodes left, saves {saved}"),
+            ),
         }
     }
 }

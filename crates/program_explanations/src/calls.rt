@@ -115,18 +115,26 @@ fn call_by(calls: &[InwardCall], from: u32, to: u32) -> Option<InwardCall> {
 /// What OUT pays by the text of the command `paid`, and what it does by the model; `None` where the text tells nothing.
 pub fn paid_of(text: &[u8], chosen: &Chosen) -> Option<(u64, u64)> {
     let after = chosen.base.saturating_sub(chosen.saved);
-    for line in text.split(|byte| *byte == b'\n') {
-        if let Some(digits) = line.strip_prefix(PAID) {
-            return Some((number_of(digits), u64::try_from(after).unwrap_or(u64::MAX)));
+    let mut begins_line = true;
+    for place in 0..text.len() {
+        let rest = text.get(place..).unwrap_or_default();
+        if begins_line {
+            if let Some(digits) = rest.strip_prefix(PAID) {
+                return Some((number_of(digits), u64::try_from(after).unwrap_or(u64::MAX)));
+            }
         }
+        begins_line = rest.starts_with(b"\n");
     }
     None
 }
 
-/// The number that digits spell in decimal.
-fn number_of(digits: &[u8]) -> u64 {
+/// The number that a line spells in decimal.
+fn number_of(line: &[u8]) -> u64 {
     let mut number: u64 = 0;
-    for digit in digits {
+    for digit in line {
+        if *digit == b'\n' {
+            break;
+        }
         let digit = u64::from(digit.wrapping_sub(b'0'));
         number = number.saturating_mul(10).saturating_add(digit);
     }

@@ -2,7 +2,7 @@ use crate::subject::Subject;
 use crate::trail::Trail;
 use crate::units::{TracedUnit, UnitTable};
 use explanation_texts::{AddressFault, Culprit};
-use object_machine::Outcome;
+use object_machine::{Outcome, Source};
 use rv32im::{A0, A1, Instr};
 use std::alloc::AllocError;
 
@@ -32,11 +32,25 @@ pub(crate) fn follow_run(
 ) -> Result<FollowedRun, AllocError> {
     let alloc = subject.inputs.alloc;
     let graph = &subject.analysis.graph;
-    let mut source = subject.machine(input)?;
     let units = UnitTable::new(alloc, &subject.analysis.code, graph)?;
     let mut trail = Trail::new(alloc, graph)?;
+    let steps = subject.board.steps.min(most);
+    // a machine is dear to drop, so it is held on one way out alone
+    match subject.machine(input) {
+        Ok(mut source) => follow_steps(&mut source, &units, &mut trail, steps),
+        Err(error) => Err(error),
+    }
+}
+
+/// Takes so many steps, or fewer where the program ends.
+fn follow_steps(
+    source: &mut Source,
+    units: &UnitTable,
+    trail: &mut Trail,
+    most: u64,
+) -> Result<FollowedRun, AllocError> {
     let mut steps: u64 = 0;
-    for _ in 0..subject.board.steps.min(most) {
+    for _ in 0..most {
         let event = source.step()?;
         if event.outcome != Outcome::GoesOn {
             break;
@@ -51,7 +65,7 @@ pub(crate) fn follow_run(
             pc,
             why,
             culprit: match units.unit_at(pc) {
-                Some(unit) => culprit_of(&trail, &unit),
+                Some(unit) => culprit_of(trail, &unit),
                 None => NO_CULPRIT,
             },
         }),

@@ -30,30 +30,22 @@ pub fn explain_refusal(notes: &mut Notes, inputs: &Inputs, fault: &AnalyseFault)
                 Piece::Number(u64::from(*need)),
             ],
         ),
-        AnalyseFault::Code(fault) => explain_code(notes, fault),
-        AnalyseFault::Region(fault) => explain_region(notes, fault),
+        AnalyseFault::Code(fault) => match fault {
+            CodeFault::TooManyBlocks { count } => {
+                notes.say(MANY_BLOCKS, &[Piece::Number(u64::from(*count))])
+            }
+            CodeFault::NoText | CodeFault::EntryNotLeader => notes.say_words(NO_CODE),
+            CodeFault::Memory => {}
+        },
+        AnalyseFault::Region(fault) => match fault {
+            RegionFault::UnknownFunction { name } => {
+                notes.say(UNKNOWN_FUNCTION, &[Piece::Name(name.as_bytes())])
+            }
+            RegionFault::TwoRegions { name } => {
+                notes.say(LISTED_TWICE, &[Piece::Name(name.as_bytes())])
+            }
+            RegionFault::Memory => {}
+        },
         AnalyseFault::Memory => {}
-    }
-}
-
-fn explain_code(notes: &mut Notes, fault: &CodeFault) {
-    match fault {
-        CodeFault::TooManyBlocks { count } => {
-            notes.say(MANY_BLOCKS, &[Piece::Number(u64::from(*count))])
-        }
-        CodeFault::NoText | CodeFault::EntryNotLeader => notes.say_words(NO_CODE),
-        CodeFault::Memory => {}
-    }
-}
-
-fn explain_region(notes: &mut Notes, fault: &RegionFault) {
-    match fault {
-        RegionFault::UnknownFunction { name } => {
-            notes.say(UNKNOWN_FUNCTION, &[Piece::Name(name.as_bytes())])
-        }
-        RegionFault::TwoRegions { name } => {
-            notes.say(LISTED_TWICE, &[Piece::Name(name.as_bytes())])
-        }
-        RegionFault::Memory => {}
     }
 }

@@ -3,7 +3,7 @@ use crate::subject::Subject;
 use crate::trail::Trail;
 use crate::units::{TracedUnit, UnitTable};
 use explanation_texts::{Origin, Unpaired, Way};
-use object_machine::Outcome;
+use object_machine::{Outcome, Source};
 use rv32im::{ImmKind, Instr, RegKind};
 use std::alloc::AllocError;
 
@@ -16,15 +16,28 @@ pub(crate) fn unpaired_of_run(
 ) -> Result<Option<Unpaired>, AllocError> {
     let alloc = subject.inputs.alloc;
     let graph = &subject.analysis.graph;
-    let mut source = subject.machine(input)?;
     let mut trail = Trail::new(alloc, graph)?;
-    for _ in 0..subject.board.steps {
+    // a machine is dear to drop, so it is held on one way out alone
+    match subject.machine(input) {
+        Ok(mut source) => first_unpaired(&mut source, units, &mut trail, subject.board.steps),
+        Err(error) => Err(error),
+    }
+}
+
+/// The first unit by which a run of so many steps is not paired.
+fn first_unpaired(
+    source: &mut Source,
+    units: &UnitTable,
+    trail: &mut Trail,
+    most: u64,
+) -> Result<Option<Unpaired>, AllocError> {
+    for _ in 0..most {
         let event = source.step()?;
         if event.outcome != Outcome::GoesOn {
             break;
         }
         if let Some(unit) = units.unit_at(event.at) {
-            if let Some(unpaired) = unpaired_at(&trail, event.at, &unit) {
+            if let Some(unpaired) = unpaired_at(trail, event.at, &unit) {
                 return Ok(Some(unpaired));
             }
             trail.follow(event.at, &unit, event.access);
