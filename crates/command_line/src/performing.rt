@@ -4,11 +4,11 @@ ghost use Rattle.command_files.specs.Diagnostic.{IsDiagnosticOrMemory};
 ghost use Rattle.command_line.specs.{InputTexts.{AreInputs}, Performing.{Performs, TellsEndOf, IsRejectedBy}};
 
 use crate::delivery::deliver;
-use command_files::Diagnostic;
 use crate::input_texts::InputTexts;
 use crate::observing::Observer;
 use crate::reading::read_inputs;
 use crate::results::prepare_result;
+use command_files::Diagnostic;
 use command_language::{Command, CommandFault};
 use relinking::MeasuredEnd;
 use shelf_io::{Progress, Shelf, Sink};

@@ -2,9 +2,9 @@ ghost use Rattle.std.specs.Prelude.{◌≡◌, ◌≢◌, None};
 ghost use Rattle.command_language.specs.Command.{texts};
 ghost use Rattle.command_line.specs.{Answers.{IsDone, TellsRun, EndsRejected, Answers}, Promise.{KeepsPromise}, AfterPaid.{PrintsPaid}};
 
-use command_files::Diagnostic;
 use crate::observing::{NoObserver, Observer};
 use crate::performing::perform_command;
+use command_files::Diagnostic;
 use command_language::{CommandFault, parse};
 use relinking::MeasuredEnd;
 use shelf_io::{NoProgress, Progress, Shelf, Sink};

@@ -8,9 +8,9 @@ ghost use Rattle.command_line.specs.{Analysed.{IsOpened}, Measured.{MeasuresTo},
 use crate::accepting::accepted_choice;
 use crate::opened::Opened;
 use crate::opening::open;
-use compare_runner::{TracedResult, moved_is_traced, results_start, trace, unmoved_is_traced};
 use board_config::Board;
 use command_language::CommandFault;
+use compare_runner::{TracedResult, moved_is_traced, results_start, trace, unmoved_is_traced};
 use elf_reader::ElfView;
 use placement_programme::Choice;
 use relink_core::{UnitAt, realise_units};

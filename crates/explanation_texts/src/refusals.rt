@@ -1,10 +1,10 @@
 use crate::cures::{COMPRESSED, CureRow, OTHER_FORM, say_cure};
 use crate::notes::{Notes, Piece};
 use crate::relocations::say_unsupported;
+use crate::unchecked::{RawSegment, UncheckedFile};
 use board_config::{Board, Range};
 use elf_reader::ElfFault;
 use object_graph::GraphFault;
-use crate::unchecked::{RawSegment, UncheckedFile};
 
 /// The section headers, by their number among the tables of a file.
 const SECTION_TABLE: u32 = 4;

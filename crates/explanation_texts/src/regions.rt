@@ -1,8 +1,8 @@
 use crate::cures::before_name;
 use crate::notes::{Notes, Piece};
 use crate::places::put_place;
-use board_config::Range;
 use crate::unchecked::UncheckedFile;
+use board_config::Range;
 
 /// A place by which control enters a region, and can't be led there.
 #[derive(Clone, Copy)]

@@ -1,8 +1,8 @@
 use crate::notes::{Notes, Piece};
 use crate::places::put_place;
+use crate::unchecked::{CodeSymbols, NameNumbers, RawRelocation, RawSection, UncheckedFile};
 use std::alloc::AllocError;
 use std::collections::BTreeSet;
-use crate::unchecked::{CodeSymbols, NameNumbers, RawRelocation, RawSection, UncheckedFile};
 
 /// The kinds of relocations of thread-local symbols (RISC-V psABI, "Relocations").
 const KINDS: [u32; 14] = [6, 7, 8, 9, 10, 11, 21, 22, 29, 30, 31, 32, 49, 50];

@@ -1,8 +1,8 @@
 use elf_reader::ElfView;
+use explanation_texts::SectionMap;
 use loaded_file::{ByteRange, LoadedFile, counts, object_ranges, symbol_value, target};
 use object_graph::{Graph, is_alias};
 use std::alloc::{AllocError, Global};
-use explanation_texts::SectionMap;
 
 /// The objects of a section.
 #[derive(Clone, Copy)]

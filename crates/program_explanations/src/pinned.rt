@@ -5,7 +5,8 @@ use crate::stakes::{SectionStake, stakes_in};
 use crate::subject::Subject;
 use elf_reader::{ElfView, SHT_NOBITS};
 use explanation_texts::{
-    LONGER_RUN, LOWER_PRICES, Label, Notes, PinnedSection, SectionMap, Stake, gives_key, is_anchor, is_library, say_more_sections, say_nothing_moved, say_pinned,
+    LONGER_RUN, LOWER_PRICES, Label, Notes, PinnedSection, SectionMap, Stake, gives_key, is_anchor,
+    is_library, say_more_sections, say_nothing_moved, say_pinned,
 };
 use object_machine::Outcome;
 use std::alloc::{AllocError, Global};

@@ -2,7 +2,8 @@ use crate::subject::Inputs;
 use board_config::read_board;
 use code_blocks::CodeFault;
 use explanation_texts::{
-    LISTED_TWICE, MANY_BLOCKS, NO_CODE, SMALL_PATCH, UNKNOWN_FUNCTION, Notes, Piece, UncheckedFile, explain_elf, explain_layout,
+    LISTED_TWICE, MANY_BLOCKS, NO_CODE, Notes, Piece, SMALL_PATCH, UNKNOWN_FUNCTION, UncheckedFile,
+    explain_elf, explain_layout,
 };
 use region_former::RegionFault;
 use relink_core::AnalyseFault;

@@ -5,7 +5,9 @@ use crate::subject::{RunEnd, Subject};
 use code_blocks::{Code, End};
 use elf_reader::ElfView;
 use explanation_texts::{
-    CALLING_ITSELF, FAULTY_INPUT, AddressFault, Involved, Notes, Origin, Piece, UncheckedFile, explain_fault, is_anchor, may_keep, say_fault_cure, say_load_address, say_still_running, say_trapped,
+    AddressFault, CALLING_ITSELF, FAULTY_INPUT, Involved, Notes, Origin, Piece, UncheckedFile,
+    explain_fault, is_anchor, may_keep, say_fault_cure, say_load_address, say_still_running,
+    say_trapped,
 };
 use object_graph::Graph;
 use object_machine::Outcome;

@@ -2,12 +2,12 @@ ghost use Rattle.std.specs.Prelude.{ℕ, List};
 ghost use Rattle.relink_core.specs.Choices.{IsAnalysisOf};
 
 use board_config::Board;
+use explanation_texts::{RawSegment, UncheckedFile};
 use object_machine::{Outcome, Source};
 use profile_runner::{Parts, Profile, ProfileFault, profile};
 use relink_core::Analysis;
 use shelf_io::NoProgress;
 use std::alloc::{AllocError, Global};
-use explanation_texts::{RawSegment, UncheckedFile};
 
 /// How the run ended by which a command measured a program.
 #[derive(Clone, Copy)]
