@@ -1,5 +1,5 @@
 use anyhow::{Context, Result, bail};
-use placement_programme::{Programme, Side, Var, VarName};
+use placement_programme::{Choice, Programme, Side, Var, VarName};
 use std::alloc::Global;
 
 /// A base is below 2 to the power of 104.
@@ -30,11 +30,15 @@ pub(crate) fn small_number(word: &str) -> Result<u64> {
     word.parse::<u64>().context("a word is no number")
 }
 
+/// A small number: a row, a variable, or how often something is there.
+pub(crate) fn count(word: &str) -> Result<u32> {
+    word.parse::<u32>().context("a word is no number")
+}
+
 /// A row and a weight, as `ROW:WEIGHT`.
 fn weight(word: &str) -> Result<(u32, u64)> {
     let (row, weight) = word.split_once(':').context("a weight has no row")?;
-    let row = row.parse::<u32>().context("a row is no number")?;
-    Ok((row, small_number(weight)?))
+    Ok((count(row)?, small_number(weight)?))
 }
 
 fn read_rows(alloc: Global, words: &str) -> Result<Vec<u64>> {
@@ -43,6 +47,19 @@ fn read_rows(alloc: Global, words: &str) -> Result<Vec<u64>> {
         rows.push(small_number(word)?)?;
     }
     Ok(rows)
+}
+
+/// The side and the numbers of a choice, as `on 1 2`.
+pub(crate) fn read_choice(alloc: Global, words: &str) -> Result<Choice> {
+    let (side, numbers) = words.split_once(' ').unwrap_or((words, ""));
+    let mut take = Vec::new(alloc);
+    for word in numbers.split_whitespace() {
+        take.push(count(word)?)?;
+    }
+    Ok(Choice {
+        on: side == "on",
+        take,
+    })
 }
 
 fn read_weights(alloc: Global, words: &str) -> Result<Vec<(u32, u64)>> {
