@@ -1,5 +1,5 @@
 use crate::listing::Listing;
-use crate::texts::{number, numbers};
+use crate::texts::{four_words, number, numbers, two_numbers};
 use anyhow::{Context, Result, bail};
 use elf_reader::Reloc;
 use elf_writer::push_words;
@@ -15,52 +15,53 @@ pub(crate) struct Case {
     pub(crate) input: Vec<u8>,
 }
 
-/// `NAME ADDRESS FLAGS`: a section that has no words yet.
-fn section(alloc: Global, text: &str) -> Result<SectionSpec> {
+/// Adds the section `NAME ADDRESS FLAGS`, which has no words yet.
+fn push_section(alloc: Global, sections: &mut Vec<SectionSpec>, text: &str) -> Result<()> {
     let (name, rest) = text.split_once(' ').context("a section has no address")?;
-    let words = numbers(alloc, rest)?;
-    let &[addr, flags] = words.as_slice() else {
-        bail!("a section has an address and flags");
-    };
-    Ok(SectionSpec {
+    let (addr, flags) = two_numbers(rest)?;
+    sections.push(SectionSpec {
         name: String::from_str(alloc, name)?,
         addr,
         flags,
         bytes: Vec::new(alloc),
         empty: 0,
         relocs: Vec::new(alloc),
-    })
+    })?;
+    Ok(())
 }
 
-/// `NAME VALUE SIZE KIND SECTION`.
-fn symbol(alloc: Global, text: &str) -> Result<SymbolSpec> {
+/// Adds the symbol `NAME VALUE SIZE KIND SECTION`.
+fn push_symbol(alloc: Global, symbols: &mut Vec<SymbolSpec>, text: &str) -> Result<()> {
     let (name, rest) = text.split_once(' ').context("a symbol has no value")?;
-    let words = numbers(alloc, rest)?;
-    let &[value, size, kind, section] = words.as_slice() else {
-        bail!("a symbol has a value, a size, a kind and a section");
-    };
-    Ok(SymbolSpec {
+    let (value, size, kind, section) = four_words(rest)?;
+    let (value, size, kind, section) = (
+        number(value)?,
+        number(size)?,
+        number(kind)?,
+        number(section)?,
+    );
+    symbols.push(SymbolSpec {
         name: String::from_str(alloc, name)?,
         value,
         size,
         kind: (kind % 16) as u8,
         section,
-    })
+    })?;
+    Ok(())
 }
 
-/// `ADDRESS KIND SYMBOL`.
-fn reloc(alloc: Global, text: &str) -> Result<Reloc> {
-    let words = numbers(alloc, text)?;
-    let &[at, kind, symbol] = words.as_slice() else {
-        bail!("a relocation has an address, a kind and a symbol");
-    };
-    Ok(Reloc {
-        at,
+/// Adds the relocation `ADDRESS KIND SYMBOL`.
+fn push_reloc(relocs: &mut Vec<Reloc>, text: &str) -> Result<()> {
+    let (at, rest) = text.split_once(' ').context("a relocation has no kind")?;
+    let (kind, symbol) = two_numbers(rest)?;
+    relocs.push(Reloc {
+        at: number(at)?,
         kind,
         symbol,
         addend: 0,
         section: 1,
-    })
+    })?;
+    Ok(())
 }
 
 impl Case {
@@ -90,11 +91,8 @@ impl Case {
 
     /// Tells how many bytes the file has, and those from one place up to another.
     pub(crate) fn tell_built(&self, listing: &mut Listing, text: &str) -> Result<()> {
+        let (from, to) = two_numbers(text)?;
         let file = self.built(listing.alloc())?;
-        let places = numbers(listing.alloc(), text)?;
-        let &[from, to] = places.as_slice() else {
-            bail!("a range has two ends");
-        };
         let range = file
             .get(from as usize..to as usize)
             .context("the file has no such bytes")?;
@@ -118,28 +116,31 @@ impl Case {
         Ok(())
     }
 
-    /// Takes a line of a file: its `entry`, a `section`, `words`, relocations (`reloc`) and the size in memory of the last section
-    /// where it is `empty`, a `symbol`, a byte `behind` all of the file, the number of `kernels` of a generated file, or the
-    /// `input` of its runs.
-    pub(crate) fn take_line(&mut self, alloc: Global, key: &str, rest: &str) -> Result<()> {
+    /// Takes a number of a file: its `entry`, the size in memory of the last section where it is `empty`, a byte `behind` all of
+    /// the file, or how many `kernels` a generated file has.
+    fn take_number(&mut self, key: &str, number: u32) -> Result<()> {
         match key {
-            "entry" => self.spec.entry = number(rest)?,
-            "kernels" => self.kernels = Some(number(rest)?),
-            "section" => self.spec.sections.push(section(alloc, rest)?)?,
-            "symbol" => self.spec.symbols.push(symbol(alloc, rest)?)?,
-            "input" => self.input = rest.as_bytes().to_vec(alloc)?,
-            "behind" => self.behind.push((number(rest)? % 256) as u8)?,
-            "words" => {
-                let words = numbers(alloc, rest)?;
-                self.take_words(&words)?;
-            }
-            "empty" => self.last_section()?.empty = number(rest)?,
-            "reloc" => {
-                let reloc = reloc(alloc, rest)?;
-                self.last_section()?.relocs.push(reloc)?;
-            }
+            "entry" => self.spec.entry = number,
+            "empty" => self.last_section()?.empty = number,
+            "behind" => self.behind.push((number % 256) as u8)?,
+            "kernels" => self.kernels = Some(number),
             _ => bail!("a line has no known key"),
         }
         Ok(())
+    }
+
+    /// Takes a line of a file: a `section`, its `words` and relocations (`reloc`), a `symbol`, the `input` of its runs, or a number.
+    pub(crate) fn take_line(&mut self, alloc: Global, key: &str, rest: &str) -> Result<()> {
+        match key {
+            "section" => push_section(alloc, &mut self.spec.sections, rest),
+            "symbol" => push_symbol(alloc, &mut self.spec.symbols, rest),
+            "reloc" => push_reloc(&mut self.last_section()?.relocs, rest),
+            "words" => self.take_words(&numbers(alloc, rest)?),
+            "input" => {
+                self.input = rest.as_bytes().to_vec(alloc)?;
+                Ok(())
+            }
+            _ => self.take_number(key, number(rest)?),
+        }
     }
 }

@@ -27,6 +27,20 @@ pub(crate) fn tell_listed(listing: &mut Listing, case: &Case, text: &str) -> Res
     tell_over(listing, case, text, ListStore::new(listing.alloc()))
 }
 
+/// The flat machine of a file, with its memory in a store.
+pub(crate) fn flat_of<S: ByteStore + Drop>(
+    alloc: Global,
+    file: &[u8],
+    input: &[u8],
+    store: S,
+) -> Result<Flat<S>>
+    requires { S.byte_at store ≡ zeros }
+{
+    let board = read_board(alloc, b"")?;
+    let view = read(alloc, file)?;
+    Ok(Flat::new(alloc, &view, &board, input, store)?)
+}
+
 /// The same with its memory in a store.
 fn tell_over<S: ByteStore + Drop>(
     listing: &mut Listing,
@@ -37,9 +51,16 @@ fn tell_over<S: ByteStore + Drop>(
     requires { S.byte_at store ≡ zeros }
 {
     let file = case.built(listing.alloc())?;
-    let view = read(listing.alloc(), &file)?;
-    let board = read_board(listing.alloc(), b"")?;
-    let mut machine = Flat::new(listing.alloc(), &view, &board, &case.input, store)?;
+    let mut machine = flat_of(listing.alloc(), &file, &case.input, store)?;
+    tell_runs(listing, &mut machine, text)
+}
+
+/// The steps and runs of a flat machine, and what it wrote.
+fn tell_runs<S: ByteStore + Drop>(
+    listing: &mut Listing,
+    machine: &mut Flat<S>,
+    text: &str,
+) -> Result<()> {
     for word in text.split_whitespace() {
         if word == "step" {
             listing.value_line("  ", &machine.step()?);
@@ -76,17 +97,19 @@ pub(crate) fn tell_object(listing: &mut Listing, case: &Case, text: &str) -> Res
     let file = case.built(listing.alloc())?;
     let board = read_board(listing.alloc(), b"")?;
     let mut machine = started(listing.alloc(), &file, &board, &case.input)?;
+    tell_object_runs(listing, &mut machine, text)
+}
+
+/// The steps and runs of that machine, and what it wrote.
+fn tell_object_runs(listing: &mut Listing, machine: &mut Source, text: &str) -> Result<()> {
     for word in text.split_whitespace() {
-        match word {
-            "step" => {
-                listing.value("  ", &machine.footprint());
-                listing.value_line(", ", &machine.step()?);
-            }
-            _ => {
-                let most = number(word)?;
-                let outcome = machine.run(u64::from(most))?;
-                tell_end(listing, most, &outcome, machine.at());
-            }
+        if word == "step" {
+            listing.value("  ", &machine.footprint());
+            listing.value_line(", ", &machine.step()?);
+        } else {
+            let steps = number(word)?;
+            let outcome = machine.run(u64::from(steps))?;
+            tell_end(listing, steps, &outcome, machine.at());
         }
     }
     listing.value_line("  wrote ", &machine.output());

@@ -30,23 +30,32 @@ mod writing;
 use crate::functions::tell_text;
 use crate::listing::Listing;
 use crate::tables::list_all;
-use crate::texts::named_texts;
 use anyhow::{Context, Result};
+use std::{env, fs};
 
-/// Lists the tables of the first text, and what the functions give for the lines of the others.
-fn list_texts(rt: &HostRuntime, listing: &mut Listing, texts: &[String]) -> Result<()> {
-    let (tables, functions) = texts.split_first().context("no text is named")?;
-    list_all(rt, listing, tables)?;
-    for text in functions {
-        tell_text(listing, text)?;
+/// Lists the tables that a text asks for (`first`), or what the functions give for its lines.
+fn list_text(rt: &HostRuntime, listing: &mut Listing, name: &str, first: bool) -> Result<()> {
+    let text = fs::read_to_string(rt, name)?;
+    if first {
+        list_all(rt, listing, &text)
+    } else {
+        tell_text(listing, &text)
+    }
+}
+
+/// Lists what the texts ask for that the words of the program name: tables, and behind the first functions.
+fn list_texts(rt: &HostRuntime, listing: &mut Listing) -> Result<()> {
+    let mut first = true;
+    for name in env::args(rt)?.skip(1) {
+        list_text(rt, listing, &name, first)?;
+        first = false;
     }
     Ok(())
 }
 
 fn main(rt: HostRuntime) -> Result<()> {
-    let texts = named_texts(&rt)?;
     let mut listing = Listing::new(rt.alloc());
-    let listed = list_texts(&rt, &mut listing, &texts);
+    let listed = list_texts(&rt, &mut listing);
     rt.print(listing.whole().context("no memory is left")?)?;
     listed
 }

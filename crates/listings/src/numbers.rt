@@ -2,7 +2,7 @@ ghost use Rattle.std.specs.Prelude.{◌+◌, ◌^◌, ◌<◌};
 ghost use Rattle.list_checks.specs.Sorted.{IsSorted};
 
 use crate::listing::Listing;
-use crate::texts::number;
+use crate::texts::{number, two_numbers};
 use anyhow::{Context, Result};
 use list_checks::{arrange, arrange_once, count_under, has, has_inside, place_of, repeats};
 use std::alloc::Global;
@@ -19,8 +19,8 @@ fn numbers(alloc: Global, text: &str) -> Result<Vec<u64>> {
 /// once, and whether one of SIZE numbers from it on is; and its place among them where each is kept once.
 pub(crate) fn tell_sorted(listing: &mut Listing, text: &str) -> Result<()> {
     let (asked, all) = text.split_once(": ").context("no numbers")?;
-    let (from, size) = asked.split_once(' ').context("no size")?;
-    let (from, size) = (u64::from(number(from)?), u64::from(number(size)?));
+    let (from, size) = two_numbers(asked)?;
+    let (from, size) = (u64::from(from), u64::from(size));
     let mut sorted = numbers(listing.alloc(), all)?;
     arrange(&mut sorted);
     tell_searches(listing, &sorted, from, size);

@@ -5,10 +5,9 @@ ghost use Rattle.std.specs.Prelude.{◌≤◌, length, IfOk};
 
 use crate::cases::Case;
 use crate::listing::Listing;
+use crate::machines::flat_of;
 use crate::texts::{number, numbers};
 use anyhow::{Context, Result, bail};
-use board_config::read_board;
-use elf_reader::read;
 use flat_machine::{Flat, FlatAccess};
 use paged_store::PageStore;
 use rv32im::word4;
@@ -122,6 +121,44 @@ fn tell_counts(listing: &mut Listing, pad: u32, counts: Counts, region: u32) {
     listing.number_line(", writes ", counts.writes);
 }
 
+/// Runs from where words were written to a pad, from there to a body, and up to `next`. Tells of it, and gives the words that
+/// are written there.
+fn told_switch(
+    listing: &mut Listing,
+    machine: &mut Flat<PageStore>,
+    old: &[u32],
+    pair: &[u32],
+    next: u32,
+) -> Result<Vec<u32>>
+    ensures { IfOk result (λ words. 89 ≤ length words.items) }
+{
+    let &[pad, body] = pair else {
+        bail!("a pad has no body");
+    };
+    run_to(machine, pad)?;
+    let counts = run_to(machine, body)?;
+    let new = words_up_to(listing.alloc(), machine, next)?;
+    tell_counts(listing, pad, counts, new[0]);
+    tell_memory(listing, &new);
+    tell_rest(listing, old, &new)?;
+    Ok(new)
+}
+
+/// Runs from each pad to its body, between which the words at `next` are written.
+fn tell_pads(
+    listing: &mut Listing,
+    machine: &mut Flat<PageStore>,
+    next: u32,
+    ends: &[u32],
+) -> Result<()> {
+    let mut words = words_up_to(listing.alloc(), machine, next)?;
+    tell_memory(listing, &words);
+    for pair in ends.chunks(2) {
+        words = told_switch(listing, machine, &words, pair, next)?;
+    }
+    Ok(())
+}
+
 /// Runs the file of a case on the flat machine. `NEXT PAD BODY PAD BODY ..`: at `NEXT` its words are written. It goes from
 /// there to a pad, from the pad to the body of a stub, which is told, and to `NEXT` again.
 pub(crate) fn tell_switches(listing: &mut Listing, case: &Case, text: &str) -> Result<()> {
@@ -129,23 +166,7 @@ pub(crate) fn tell_switches(listing: &mut Listing, case: &Case, text: &str) -> R
     let next = number(next)?;
     let ends = numbers(listing.alloc(), ends)?;
     let file = case.built(listing.alloc())?;
-    let view = read(listing.alloc(), &file)?;
-    let board = read_board(listing.alloc(), b"")?;
     let store = PageStore::new(listing.alloc());
-    let mut machine = Flat::new(listing.alloc(), &view, &board, &case.input, store)?;
-    let mut old = words_up_to(listing.alloc(), &mut machine, next)?;
-    tell_memory(listing, &old);
-    for pair in ends.chunks(2) {
-        let &[pad, body] = pair else {
-            bail!("a pad has no body");
-        };
-        run_to(&mut machine, pad)?;
-        let counts = run_to(&mut machine, body)?;
-        let new = words_up_to(listing.alloc(), &mut machine, next)?;
-        tell_counts(listing, pad, counts, new[0]);
-        tell_memory(listing, &new);
-        tell_rest(listing, &old, &new)?;
-        old = new;
-    }
-    Ok(())
+    let mut machine = flat_of(listing.alloc(), &file, &case.input, store)?;
+    tell_pads(listing, &mut machine, next, &ends)
 }

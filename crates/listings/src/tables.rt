@@ -1,5 +1,5 @@
 // The tables that a list asks for.
-ghost use Rattle.std.specs.Prelude.{List, ℕ};
+ghost use Rattle.std.specs.Prelude.{List, ℕ, IfOk};
 ghost use Rattle.board_config.specs.{Board.{IsLawful}, declared.board.Board.{Board as ContractBoard}};
 ghost use Rattle.loaded_file.specs.Read.{IsRead};
 ghost use Rattle.relink_core.specs.Choices.{IsAnalysisOf};
@@ -23,6 +23,7 @@ use elf_reader::{ElfView, read};
 use relink_core::{Analysis, analyse};
 use relinking::programme_of_run;
 use shelf_io::NoProgress;
+use std::alloc::Global;
 use std::fs;
 
 /// The name of the program that is made rather than read.
@@ -191,17 +192,21 @@ fn bytes_of(rt: &HostRuntime, name: &str) -> Result<Vec<u8>> {
     }
 }
 
+/// The board of some keys, between which `;` stands.
+fn board_of(alloc: Global, keys: &str) -> Result<Board>
+    ensures { IfOk result IsLawful }
+{
+    let text = keys.replace(alloc, ";", "\n")?;
+    Ok(read_board(alloc, text.as_bytes())?)
+}
+
 /// Lists what a line asks for: `FILE TABLE,TABLE.. KEYS`, where `;` stands between the keys of the board.
 fn list_line(rt: &HostRuntime, listing: &mut Listing, line: &str) -> Result<()> {
     listing.text("== ");
     listing.line(line);
     let (file, rest) = line.split_once(' ').context("a line names no table")?;
-    let (tables, keys) = match rest.split_once(' ') {
-        Some((tables, keys)) => (tables, keys),
-        None => (rest, ""),
-    };
-    let keys = keys.replace(listing.alloc(), ";", "\n")?;
-    let board = read_board(listing.alloc(), keys.as_bytes())?;
+    let (tables, keys) = rest.split_once(' ').unwrap_or((rest, ""));
+    let board = board_of(listing.alloc(), keys)?;
     let bytes = bytes_of(rt, file)?;
     if tables.split(',').all(is_of_file) {
         list_file(listing, tables, &bytes, &board)

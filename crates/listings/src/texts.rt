@@ -1,18 +1,7 @@
-// The texts of the files that the words of the program name, and numbers in them.
+// Numbers and words of texts.
 use anyhow::{Context, Result};
 use num_traits::Num;
 use std::alloc::Global;
-use std::rt::{Env, Files};
-use std::{env, fs};
-
-/// The texts of the files that the words of the program name, in order.
-pub(crate) fn named_texts(rt: &(impl Env + Files + AllocGlobal)) -> Result<Vec<String>> {
-    let mut texts = Vec::new(rt.alloc());
-    for name in env::args(rt)?.skip(1) {
-        texts.push(fs::read_to_string(rt, &name)?)?;
-    }
-    Ok(texts)
-}
 
 /// A number in decimal, or with `0x` before it in hexadecimal.
 pub(crate) fn number(word: &str) -> Result<u32> {
@@ -30,4 +19,18 @@ pub(crate) fn numbers(alloc: Global, text: &str) -> Result<Vec<u32>> {
         numbers.push(number(word)?)?;
     }
     Ok(numbers)
+}
+
+/// The two numbers of a text.
+pub(crate) fn two_numbers(text: &str) -> Result<(u32, u32)> {
+    let (first, second) = text.split_once(' ').context("no second number")?;
+    Ok((number(first)?, number(second)?))
+}
+
+/// The four words of a text.
+pub(crate) fn four_words(text: &str) -> Result<(&str, &str, &str, &str)> {
+    let (first, rest) = text.split_once(' ').context("no second word")?;
+    let (second, rest) = rest.split_once(' ').context("no third word")?;
+    let (third, fourth) = rest.split_once(' ').context("no fourth word")?;
+    Ok((first, second, third, fourth))
 }

@@ -2,8 +2,8 @@ ghost use Rattle.std.specs.Prelude.{◌≡◌, IfOk, IfSome, IsTrue, ◌↔◌, 
 ghost use Rattle.cell_values.specs.Objects.{IsOfGraph, IsGrain};
 
 use crate::listing::Listing;
-use crate::texts::number;
-use anyhow::{Context, Result, bail};
+use crate::texts::{four_words, number};
+use anyhow::{Result, bail};
 use cell_values::{Val, compare, join, low_site, op_imm, op_reg, split};
 use object_graph::{Graph, Object};
 use rv32im::{BranchKind, ImmKind, Instr, RegKind, decode};
@@ -89,9 +89,7 @@ struct Operation {
 }
 
 fn read_operation(text: &str) -> Result<Operation> {
-    let (grain, rest) = text.split_once(' ').context("no instruction")?;
-    let (word, rest) = rest.split_once(' ').context("no values")?;
-    let (a, b) = rest.split_once(' ').context("no second value")?;
+    let (grain, word, a, b) = four_words(text)?;
     Ok(Operation {
         grain: number(grain)?,
         word: number(word)?,
@@ -159,12 +157,10 @@ fn tell_branch(listing: &mut Listing, kind: BranchKind, asked: &Operation, graph
 
 /// `GRAIN VALUE OBJECT OFFSET`: the address that a low part of an address of the object makes of the value.
 pub(crate) fn tell_address(listing: &mut Listing, text: &str) -> Result<()> {
-    let (grain, rest) = text.split_once(' ').context("no value")?;
-    let (word, rest) = rest.split_once(' ').context("no object")?;
-    let (obj, off) = rest.split_once(' ').context("no offset")?;
+    let (grain, word, obj, off) = four_words(text)?;
+    let (a, obj, off) = (value(word)?, number(obj)?, number(off)?);
     let grain = number(grain)?;
     let graph = graph_at(listing.alloc(), grain)?;
-    let (a, obj, off) = (value(word)?, number(obj)?, number(off)?);
     if !is_of_graph(&a, &graph) || obj as usize >= graph.objects.len() {
         bail!("a value of no object");
     }

@@ -1,8 +1,8 @@
 ghost use Rattle.rv32im.specs.Table.{IsInRange};
 
 use crate::listing::Listing;
-use crate::texts::number;
-use anyhow::{Context, Result};
+use crate::texts::{number, two_numbers};
+use anyhow::Result;
 use rv32im::{Instr, bytes4, decode, defs, encode, hi20, lo12, sext, uses, word4};
 
 /// The halves and the bytes of a word, and the instruction that it is: what that is encoded to, and the registers that
@@ -38,8 +38,7 @@ fn tell_instruction(listing: &mut Listing, instr: &Instr)
 
 /// A word whose low bits, as many as are given, are extended by their sign.
 pub(crate) fn tell_extension(listing: &mut Listing, text: &str) -> Result<()> {
-    let (word, bits) = text.split_once(' ').context("no number of bits")?;
-    let (word, bits) = (number(word)?, number(bits)?);
+    let (word, bits) = two_numbers(text)?;
     if bits == 0 || bits > 32 {
         return Ok(());
     }
